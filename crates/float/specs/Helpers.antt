@@ -1,0 +1,18 @@
+-- What Rust's `f64::abs`, `min`, `max`, `is_finite`, `from_bits` and `to_bits` give, all NaNs being one.
+-- `is_finite` is `finite` of lib.Ieee.Scale, and the two conversions are `ofBits` and `toBits` of lib.Ieee. Definitions only.
+use mathlib.Core.Bool.{Bool, true, false, cond}
+use lib.Ieee.{Float, nan, inf, fin, lt, isNan}
+
+-- The same magnitude without its sign: of -0 it is +0.
+unfoldable pub absOf : Float → Float
+absOf nan = nan
+absOf (inf s) = inf false
+absOf (fin s m e) = fin false m e
+
+-- The other operand where one is NaN, else the smaller; the first where they are equal.
+abbrev pub minOf : Float → Float → Float
+minOf x y = cond (isNan x) y (cond (isNan y) x (cond (lt y x) y x))
+
+-- The other operand where one is NaN, else the larger; the first where they are equal.
+abbrev pub maxOf : Float → Float → Float
+maxOf x y = cond (isNan x) y (cond (isNan y) x (cond (lt x y) y x))

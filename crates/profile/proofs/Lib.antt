@@ -1,0 +1,3 @@
+pub mod ByLabel
+pub mod Runs
+pub mod Ways

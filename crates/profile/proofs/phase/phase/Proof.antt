@@ -1,0 +1,33 @@
+-- `phase` is `nodeOf`. Assumes nothing.
+use borrow.Author.Needs.{needs}
+use Rattle.profile.specs.Phase.{nodeOf}
+use Rattle.profile.proofs.phase.phase.Statement.{statement}
+use Rattle.profile.proofs.phase.phase.Tie as tie
+
+returns : tie.Need-returns
+unfolding nodeOf
+returns c = rw (c .zero-inside .ensures, c .before .replaced .ensures, c .before .before .integrate .ensures)
+
+pub phase-spec : {M : Type 1} → statement M
+phase-spec =
+    tie.close
+    (tie.spec
+    (λ c. search needs)
+    (λ c. search needs)
+    (λ c. search needs)
+    (λ c. search needs)
+    (λ c. search needs)
+    (λ c. search needs)
+    (λ c κs. search needs)
+    (λ c κs. search needs)
+    (λ c. search needs)
+    (λ c. search needs)
+    (λ c. search needs)
+    (λ c. search needs)
+    (λ c. search needs)
+    (λ c. search needs)
+    (λ c. search needs)
+    (λ c. search needs)
+    (λ c. search needs)
+    (λ c κs. search needs)
+    returns)

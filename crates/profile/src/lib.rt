@@ -1,0 +1,218 @@
+// profile.rs: the record of a move, its labels, and `check`, which adds up seven phase times.
+// Left out of the Rust's `Profile` are `brake` and `accel`, which these functions neither read nor write.
+pub mod in_place;
+mod limit;
+mod phase;
+mod signs;
+mod tests;
+mod times;
+
+use float::abs;
+use in_place::Goal;
+use in_place::Labels;
+ghost use mathlib.Core.Path.{_≡_};
+ghost use mathlib.Core.Bool.{false};
+ghost use Rattle.profile.specs.Check.{checkOf};
+ghost use Rattle.profile.specs.Boundary.{defaultOf, boundaryOf, checkFullOf};
+
+// J_EPS
+const J_EPS: f64 = 1e-12;
+
+pub enum ReachedLimits {
+    Acc0Acc1Vel,
+    Vel,
+    Acc0,
+    Acc1,
+    Acc0Acc1,
+    Acc0Vel,
+    Acc1Vel,
+    None,
+}
+
+pub enum Direction {
+    UP,
+    DOWN,
+}
+
+pub enum ControlSigns {
+    UDDU,
+    UDUD,
+}
+
+pub struct Profile {
+    pub t: [f64; 7],
+    pub t_sum: [f64; 7],
+    pub j: [f64; 7],
+    pub a: [f64; 8],
+    pub v: [f64; 8],
+    pub p: [f64; 8],
+    pub pf: f64,
+    pub vf: f64,
+    pub af: f64,
+    pub limits: ReachedLimits,
+    pub direction: Direction,
+    pub control_signs: ControlSigns,
+}
+
+// The verdict of a check, with the record as it leaves it.
+pub struct Checked {
+    pub ok: bool,
+    pub profile: Profile,
+}
+
+impl Profile {
+    // `Profile::default()`.
+    pub fn default() -> Profile
+        ensures { λ r. ⌜ r ≡ defaultOf ⌝ }
+    {
+        Profile {
+            t: [0.0; 7],
+            t_sum: [0.0; 7],
+            j: [0.0; 7],
+            a: [0.0; 8],
+            v: [0.0; 8],
+            p: [0.0; 8],
+            pf: 0.0,
+            vf: 0.0,
+            af: 0.0,
+            limits: ReachedLimits::None,
+            direction: Direction::UP,
+            control_signs: ControlSigns::UDDU,
+        }
+    }
+
+    pub fn set_boundary(
+        self,
+        p0_new: f64,
+        v0_new: f64,
+        a0_new: f64,
+        pf_new: f64,
+        vf_new: f64,
+        af_new: f64,
+    ) -> Profile
+        ensures { λ r. ⌜ r ≡ boundaryOf «p0_new» «v0_new» «a0_new» «pf_new» «vf_new» «af_new» self ⌝ }
+    {
+        let mut next = self;
+        next.a[0] = a0_new;
+        next.v[0] = v0_new;
+        next.p[0] = p0_new;
+        next.af = af_new;
+        next.vf = vf_new;
+        next.pf = pf_new;
+        next
+    }
+
+    pub fn check(
+        self,
+        control_signs: ControlSigns,
+        limits: ReachedLimits,
+        set_limits: bool,
+        jf: f64,
+        v_max: f64,
+        v_min: f64,
+        a_max: f64,
+        a_min: f64,
+    ) -> Checked
+        ensures { λ r. ⌜ r ≡ checkOf «control_signs» limits «set_limits» jf «v_max» «v_min» «a_max» «a_min» self ⌝ }
+    {
+        let t = self.t;
+        let mut t_sum = self.t_sum;
+        let mut j = self.j;
+        let mut a = self.a;
+        let mut v = self.v;
+        let mut p = self.p;
+        let goal = Goal {
+            pf: self.pf,
+            vf: self.vf,
+            af: self.af,
+        };
+        let was_limits = self.limits;
+        let was_direction = self.direction;
+        let was_signs = self.control_signs;
+        let labels = Labels {
+            limits: was_limits,
+            direction: was_direction,
+            control_signs: was_signs,
+        };
+        let answer = in_place::check(
+            &t,
+            &mut t_sum,
+            &mut j,
+            &mut a,
+            &mut v,
+            &mut p,
+            goal,
+            labels,
+            control_signs,
+            limits,
+            set_limits,
+            jf,
+            v_max,
+            v_min,
+            a_max,
+            a_min,
+        );
+        let now = answer.labels;
+        let now_limits = now.limits;
+        let now_direction = now.direction;
+        let now_signs = now.control_signs;
+        Checked {
+            ok: answer.ok,
+            profile: Profile {
+                t,
+                t_sum,
+                j,
+                a,
+                v,
+                p,
+                pf: self.pf,
+                vf: self.vf,
+                af: self.af,
+                limits: now_limits,
+                direction: now_direction,
+                control_signs: now_signs,
+            },
+        }
+    }
+
+    // Time is not tested: the Rust's formulas are to sum up to the duration.
+    pub fn check_with_timing(
+        self,
+        control_signs: ControlSigns,
+        limits: ReachedLimits,
+        jf: f64,
+        v_max: f64,
+        v_min: f64,
+        a_max: f64,
+        a_min: f64,
+    ) -> Checked
+        ensures { λ r. ⌜ r ≡ checkOf «control_signs» limits false jf «v_max» «v_min» «a_max» «a_min» self ⌝ }
+    {
+        self.check(control_signs, limits, false, jf, v_max, v_min, a_max, a_min)
+    }
+
+    // The jerk is held to j_max first.
+    pub fn check_with_timing_full(
+        self,
+        control_signs: ControlSigns,
+        limits: ReachedLimits,
+        _tf: f64,
+        jf: f64,
+        v_max: f64,
+        v_min: f64,
+        a_max: f64,
+        a_min: f64,
+        j_max: f64,
+    ) -> Checked
+        ensures { λ r. ⌜ r ≡ checkFullOf «control_signs» limits jf «v_max» «v_min» «a_max» «a_min» «j_max» self ⌝ }
+    {
+        if abs(jf) < abs(j_max) + J_EPS {
+            self.check_with_timing(control_signs, limits, jf, v_max, v_min, a_max, a_min)
+        } else {
+            Checked {
+                ok: false,
+                profile: self,
+            }
+        }
+    }
+}

@@ -1,0 +1,160 @@
+//! The eleven attempts of the five shapes, each with a motion of its own form.
+
+use crate::motion::forwards;
+use crate::numbers::quarters;
+use crate::random::Random;
+use oracle::frame;
+
+#[derive(Clone, Copy, PartialEq, Debug)]
+pub enum Attempt {
+    Acc0Acc1VelUddu,
+    Acc0Acc1VelUdud,
+    Acc1VelUddu,
+    Acc1VelUdud,
+    Acc0VelUddu,
+    Acc0VelUdud,
+    Acc0Acc1Rest,
+    Acc0Acc1Uddu,
+    Acc0UdudNone,
+    Acc0UdduNone,
+    Acc0UdduAcc0,
+}
+
+use Attempt::*;
+
+pub const ATTEMPTS: [Attempt; 11] = [
+    Acc0Acc1VelUddu,
+    Acc0Acc1VelUdud,
+    Acc1VelUddu,
+    Acc1VelUdud,
+    Acc0VelUddu,
+    Acc0VelUdud,
+    Acc0Acc1Rest,
+    Acc0Acc1Uddu,
+    Acc0UdudNone,
+    Acc0UdduNone,
+    Acc0UdduAcc0,
+];
+
+impl Attempt {
+    pub fn kind(self) -> u8 {
+        match self {
+            Acc0Acc1VelUddu | Acc0Acc1VelUdud => frame::ACC0_ACC1_VEL,
+            Acc1VelUddu | Acc1VelUdud => frame::ACC1_VEL,
+            Acc0VelUddu | Acc0VelUdud => frame::ACC0_VEL,
+            Acc0Acc1Rest | Acc0Acc1Uddu => frame::ACC0_ACC1,
+            Acc0UdudNone | Acc0UdduNone | Acc0UdduAcc0 => frame::ACC0,
+        }
+    }
+
+    /// Which attempt called `check` so, in a line of this kind.
+    pub fn of_check(kind: u8, signs: u8, label: u8, rest: bool) -> Self {
+        match (kind, signs, label) {
+            (frame::ACC0_ACC1_VEL, 0, 0) => Acc0Acc1VelUddu,
+            (frame::ACC0_ACC1_VEL, 1, 0) => Acc0Acc1VelUdud,
+            (frame::ACC1_VEL, 0, 6) => Acc1VelUddu,
+            (frame::ACC1_VEL, 1, 6) => Acc1VelUdud,
+            (frame::ACC0_VEL, 0, 5) => Acc0VelUddu,
+            (frame::ACC0_VEL, 1, 5) => Acc0VelUdud,
+            (frame::ACC0_ACC1, 0, 4) if rest => Acc0Acc1Rest,
+            (frame::ACC0_ACC1, 0, 4) => Acc0Acc1Uddu,
+            (frame::ACC0, 1, 7) => Acc0UdudNone,
+            (frame::ACC0, 0, 7) => Acc0UdduNone,
+            (frame::ACC0, 0, 2) => Acc0UdduAcc0,
+            _ => panic!("kind {kind} calls check with signs {signs}, label {label}"),
+        }
+    }
+}
+
+/// The twelve numbers of a line whose answer should come from `attempt`. The
+/// velocity limits lie at the extreme velocities; the caller gives them room.
+pub fn twelve(random: &mut Random, attempt: Attempt) -> [f64; 12] {
+    let rest = attempt == Acc0Acc1Rest;
+    let a_max = if rest { rest_limit(random) } else { size(random, 4) };
+    let a_min = -size(random, 4);
+    let j = size(random, 8);
+    let a0 = if rest { 0.0 } else { acceleration(random, a_min, a_max) };
+    let af = if rest { 0.0 } else { acceleration(random, a_min, a_max) };
+    let [one, three, five, ramp] = std::array::from_fn(|_| hold(random));
+
+    // Ramps of the jerk between the accelerations.
+    let start_max = (a_max - a0) / j;
+    let max_zero = a_max / j;
+    let zero_min = -a_min / j;
+    let min_end = (af - a_min) / j;
+    let max_end = (a_max - af) / j;
+    // A ramp that starts at `low` and does not pass `high`.
+    let within = |low: f64, high: f64| {
+        let low = low.max(0.0);
+        low + ramp.min((high - low).max(0.0))
+    };
+    let first = within(-a0 / j, start_max);
+    let second = a0 / j + first;
+    let down = within(-af / j, zero_min);
+    let up = within(af / j, max_zero);
+
+    let (signs, times) = match attempt {
+        Acc0Acc1VelUddu => (0, [start_max, one, max_zero, three, zero_min, five, min_end]),
+        Acc0Acc1VelUdud => (1, [start_max, one, max_zero, three, max_zero, five, max_end]),
+        Acc1VelUddu => (0, [first, 0.0, second, three, zero_min, five, min_end]),
+        Acc1VelUdud => (1, [first, 0.0, second, three, max_zero, five, max_end]),
+        Acc0VelUddu => (0, [start_max, one, max_zero, three, down, 0.0, down + af / j]),
+        Acc0VelUdud => (1, [start_max, one, max_zero, three, up, 0.0, up - af / j]),
+        Acc0Acc1Rest | Acc0Acc1Uddu => {
+            (0, [start_max, one, max_zero, 0.0, zero_min, five, min_end])
+        }
+        Acc0UdudNone => (1, [start_max, one, max_end + ramp, 0.0, ramp, 0.0, 0.0]),
+        Acc0UdduNone => (0, [start_max, one, ramp, three, 0.0, 0.0, five]),
+        Acc0UdduAcc0 => (0, [start_max, one, ramp, three, five, 0.0, 0.0]),
+    };
+
+    let [p0, v0] = std::array::from_fn(|_| match random.below(3) {
+        0 => 0.0,
+        1 => quarters(random, 8) * random.sign(),
+        _ => random.between(-8.0, 8.0),
+    });
+    let motion = forwards(signs, j, &times, [p0, v0, a0]);
+    let [pf, vf, af] = motion.end;
+    let tf = motion.duration;
+    let (v_max, v_min) = (motion.fastest, motion.slowest);
+    [tf, p0, v0, a0, pf, vf, af, v_max, v_min, a_max, a_min, j]
+}
+
+fn size(random: &mut Random, most: u64) -> f64 {
+    match random.below(3) {
+        0 => quarters(random, most - 1) + 0.25,
+        1 => random.between(0.0, most as f64),
+        _ => random.between(-3.0, (most as f64).log2()).exp2(),
+    }
+}
+
+/// The rest formula's t[1] is not the motion's: with both limits of the usual signs
+/// the formula's is always less. The two agree where a_max is zero, and closely
+/// enough for `check` where it is tiny.
+fn rest_limit(random: &mut Random) -> f64 {
+    match random.below(4) {
+        0 => 0.0,
+        1 => -0.0,
+        2 => 10f64.powf(random.between(-14.0, -4.0)),
+        _ => size(random, 4),
+    }
+}
+
+fn acceleration(random: &mut Random, a_min: f64, a_max: f64) -> f64 {
+    match random.below(8) {
+        0..=2 => 0.0,
+        3 => random.pick(&[a_min, a_max, a_min / 2.0, a_max / 2.0]),
+        _ => random.between(a_min, a_max),
+    }
+}
+
+/// How long a phase of constant acceleration or velocity lasts.
+fn hold(random: &mut Random) -> f64 {
+    match random.below(8) {
+        0 => 0.0,
+        1 => f64::EPSILON * random.between(0.5, 2.0),
+        2 => quarters(random, 2),
+        3 => random.between(0.0, 0.1),
+        _ => random.between(0.0, 1.5),
+    }
+}

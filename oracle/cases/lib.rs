@@ -1,0 +1,12 @@
+//! Lines, quartics and numbers to try, made from a seed.
+
+pub mod attempt;
+pub mod broken_line;
+pub mod check_line;
+pub mod line;
+mod motion;
+mod needs;
+pub mod numbers;
+pub mod quartic;
+pub mod random;
+pub mod shape_line;

@@ -1,0 +1,145 @@
+//! Which cases can come up. Each of these has to; each of the others must not, or
+//! the reasons below are wrong.
+
+use crate::coverage::{Coverage, CAUSES};
+use cases::attempt::{Attempt, ATTEMPTS};
+
+/// What is missing, and what should not have come up.
+pub fn faults(coverage: &Coverage) -> Vec<String> {
+    let mut faults = Vec::new();
+    let mut hold = |can: bool, count: u64, name: String| match (can, count > 0) {
+        (true, false) => faults.push(format!("never came up: {name}")),
+        (false, true) => faults.push(format!("should not come up: {name}")),
+        _ => {}
+    };
+
+    for (number, count) in coverage.refusals.iter().enumerate() {
+        hold(true, *count, format!("refusal {number}"));
+    }
+    for signs in 0..2 {
+        for label in 0..8 {
+            for set_limits in 0..2 {
+                for cause in 0..CAUSES {
+                    hold(
+                        label_has(label, cause),
+                        coverage.checks[signs][label][set_limits][cause],
+                        format!(
+                            "kind 00, signs {signs}, label {label}, \
+                             set_limits {set_limits}, cause {cause}"
+                        ),
+                    );
+                }
+            }
+        }
+    }
+    for (index, attempt) in ATTEMPTS.into_iter().enumerate() {
+        for cause in 0..CAUSES {
+            hold(
+                attempt_has(attempt, cause),
+                coverage.attempts[index][cause],
+                format!("{attempt:?}, cause {cause}"),
+            );
+        }
+        for direction in 0..2 {
+            let count = coverage.directions[index][direction];
+            hold(true, count, format!("{attempt:?}, yes, direction {direction}"));
+        }
+    }
+    for kind in 0..6 {
+        for verdict in 0..2 {
+            for label in 0..8 {
+                for signs in 0..2 {
+                    for direction in 0..2 {
+                        hold(
+                            record_comes_up(kind, verdict, label, signs),
+                            coverage.records[kind][verdict][label][direction][signs],
+                            format!(
+                                "kind {kind:02X}, verdict {verdict}, label {label}, \
+                                 direction {direction}, signs {signs}"
+                            ),
+                        );
+                    }
+                }
+            }
+        }
+    }
+    for kind in [2, 3, 6, 7] {
+        for signs in 0..2 {
+            for need in 0..3 {
+                let name = format!("kind {kind:02X}, signs {signs}, need {need:02X}");
+                let can = need_comes_up(kind, need);
+                hold(can, coverage.needs[kind][signs][need], name.clone());
+                let yes = kind < 4 && need != 1;
+                hold(yes, coverage.yes_needs[kind][signs][need], format!("{name}, yes"));
+            }
+        }
+    }
+    for need in 0..3 {
+        for count in 0..4 {
+            let suits = [true, count == 0, count > 0][need];
+            let name = format!("need {need:02X}, count {count}");
+            hold(suits, coverage.counts[need][count], name);
+        }
+    }
+    for (kind, row) in coverage.classes.iter().enumerate() {
+        for (class, count) in ["NaN", "infinity", "-0", "subnormal"].iter().zip(row) {
+            hold(true, *count, format!("kind {kind:02X}, reply with {class}"));
+        }
+    }
+    faults
+}
+
+/// Causes 2, 3 and 4 are the tests of t[3], t[1] and t[5], which only some labels
+/// have.
+fn label_has(label: usize, cause: usize) -> bool {
+    match cause {
+        2 => matches!(label, 0 | 1 | 5 | 6),
+        3 => matches!(label, 2 | 4),
+        4 => matches!(label, 3 | 4),
+        _ => true,
+    }
+}
+
+/// In the rest formula t[6] is t[4] and a[3] becomes 0, so a[7] is 0 exactly or
+/// not finite. Then no product of neighbouring accelerations after phase 1 is
+/// below zero (cause 6), and an a[7] that is not finite comes with a p[7] that is
+/// not (cause 9 after cause 7).
+fn attempt_has(attempt: Attempt, cause: usize) -> bool {
+    let label = match attempt {
+        Attempt::Acc0Acc1VelUddu | Attempt::Acc0Acc1VelUdud => 0,
+        Attempt::Acc1VelUddu | Attempt::Acc1VelUdud => 6,
+        Attempt::Acc0VelUddu | Attempt::Acc0VelUdud => 5,
+        Attempt::Acc0Acc1Rest | Attempt::Acc0Acc1Uddu => 4,
+        Attempt::Acc0UdduAcc0 => 2,
+        Attempt::Acc0UdudNone | Attempt::Acc0UdduNone => 7,
+    };
+    let rest = attempt == Attempt::Acc0Acc1Rest && matches!(cause, 6 | 9);
+    label_has(label, cause) && !rest
+}
+
+/// A yes has the label and signs of the attempt that said it. After a no they are
+/// those of the last attempt that got past the phases, or the default None and
+/// UDDU, where the direction may be set all the same (cause 6). A kind 00 line that
+/// stops early leaves None and UDDU whatever its label and signs.
+fn record_comes_up(kind: usize, verdict: usize, label: usize, signs: usize) -> bool {
+    let default = verdict == 0 && label == 7 && signs == 0;
+    default
+        || match kind {
+            0 => true,
+            1 => label == 0,
+            2 => label == 6,
+            3 => label == 5,
+            4 => label == 4 && signs == 0,
+            _ => label == 7 || label == 2 && signs == 0,
+        }
+}
+
+/// The third shape's quartics have c = 0, so they need no cube root.
+///
+/// A yes after need 01 does not come up either. There a = b = 0 up to EPS, which
+/// makes a_min (UDDU) or a_max (UDUD) twice a0 and fixes vd; UDDU's t[3] is then
+/// -(x²/2 + x + 1) |a0 / j_max| with x = t |j_max / a0|, below zero for every t,
+/// and UDUD's only root that the motion has is 0, where t[3] is -|a0 / j_max|.
+fn need_comes_up(kind: usize, need: usize) -> bool {
+    need != 1 || matches!(kind, 2 | 6)
+}

@@ -1,0 +1,69 @@
+//! Over generated lines: the traced copy answers as the plain one; the quartics
+//! taken out of the shapes give bit for bit what the shapes' own calls receive;
+//! and what those calls ask for is what the needs say, with the same arguments.
+
+use cases::line::Line;
+use cases::random::Random;
+use cases::{broken_line, check_line, shape_line};
+use oracle::quartics::{need, polynoms};
+use oracle::{answer_line, digits, frame, shapes};
+use rsruckig::roots::resolvent_arguments;
+use rsruckig::{hand_in, trace};
+
+/// Returns how many quartics were compared.
+pub fn test(seed: u64, count: u64) -> usize {
+    let mut random = Random::new(seed);
+    let mut line = Line::default();
+    let mut compared = 0;
+    for _ in 0..count {
+        let kind = random.pick(&[0, 1, 2, 2, 3, 3, 4, 5, 6, 7]);
+        match kind {
+            frame::CHECK => check_line::write(&mut random, &mut line),
+            _ => shape_line::write(&mut random, kind, &mut line),
+        }
+        if random.once_in(16) {
+            broken_line::spoil(&mut random, kind, &mut line);
+        }
+        let request = &line.characters;
+
+        trace::clear();
+        let mut traced = [b'-'; frame::RECORD_PLACES];
+        let mut untraced = traced;
+        let number = answer_line(request, &mut traced);
+        assert_eq!(number, plain::answer_line(request, &mut untraced));
+        assert_eq!(traced, untraced);
+        let has_answers = matches!(request[..], [b'0', b'2' | b'3', ..]);
+        if number == 0 && has_answers {
+            compared += compare_quartics(request);
+        }
+    }
+    compared
+}
+
+fn compare_quartics(request: &[u8]) -> usize {
+    let mut bytes = [0; frame::LONGEST];
+    digits::read(request, &mut bytes);
+    let numbers: [f64; 12] = frame::numbers(&bytes, frame::NUMBERS);
+    let taken_out = polynoms(bytes[0], &shapes::solver(&numbers), &numbers);
+    let (quartics, ran) = hand_in::quartics();
+    for (polynom, quartic) in taken_out.iter().zip(&quartics[..ran]) {
+        same(polynom, &quartic.polynom);
+        assert_eq!(need(polynom), quartic.asked);
+        if quartic.asked == 2 {
+            let [a, b, c, d] = *polynom;
+            same(&resolvent_arguments(a, b, c, d), &quartic.arguments);
+        }
+    }
+    ran
+}
+
+fn same(left: &[f64], right: &[f64]) {
+    let bits = |number: &f64| {
+        if number.is_nan() {
+            1 << 63 | 1
+        } else {
+            number.to_bits()
+        }
+    };
+    assert!(left.iter().map(bits).eq(right.iter().map(bits)), "{left:?} {right:?}");
+}

@@ -1,0 +1,21 @@
+//! Tests the oracle itself: the moves that document 01 works through, and over a
+//! row of generated lines that the edits changed nothing but what they had to.
+//!
+//!   selftest SEED COUNT
+
+mod edits;
+mod moves;
+
+use std::env;
+
+fn main() {
+    let mut words = env::args().skip(1).map(|word| word.parse().expect("a decimal number"));
+    let (Some(seed), Some(count), None) = (words.next(), words.next(), words.next()) else {
+        eprintln!("use: selftest SEED COUNT");
+        std::process::exit(2);
+    };
+    let moves = moves::test();
+    println!("{moves} moves of document 01 hold");
+    let quartics = edits::test(seed, count);
+    println!("{count} lines answered alike, {quartics} quartics as taken out of the source");
+}

@@ -1,0 +1,49 @@
+//! Where the parts of a frame stand, in bytes.
+
+pub const CHECK: u8 = 0x00;
+pub const ACC0_ACC1_VEL: u8 = 0x01;
+pub const ACC1_VEL: u8 = 0x02;
+pub const ACC0_VEL: u8 = 0x03;
+pub const ACC0_ACC1: u8 = 0x04;
+pub const ACC0: u8 = 0x05;
+pub const ACC1_VEL_QUARTICS: u8 = 0x06;
+pub const ACC0_VEL_QUARTICS: u8 = 0x07;
+
+/// The longest frame, that of `check`.
+pub const LONGEST: usize = 148;
+
+/// The length that each kind's frame has.
+pub const LENGTHS: [usize; 8] = [LONGEST, 97, 147, 147, 97, 97, 97, 97];
+
+/// Where kind 00's seven times and the eleven numbers after them begin.
+pub const CHECK_TIMES: usize = 4;
+pub const CHECK_NUMBERS: usize = CHECK_TIMES + 7 * 8;
+
+/// Where the twelve numbers of kinds 01 to 07 begin.
+pub const NUMBERS: usize = 1;
+
+/// Where the two root answers begin, and how long one is: a count and three
+/// numbers.
+pub const ANSWERS: usize = NUMBERS + 12 * 8;
+pub const ANSWER_LENGTH: usize = 1 + 3 * 8;
+
+/// A record's reply and the quartics' reply, in places.
+pub const RECORD_PLACES: usize = 728;
+pub const QUARTICS_PLACES: usize = 228;
+
+#[inline]
+pub fn number(frame: &[u8], at: usize) -> f64 {
+    let mut bytes = [0; 8];
+    bytes.copy_from_slice(&frame[at..at + 8]);
+    f64::from_bits(u64::from_be_bytes(bytes))
+}
+
+#[inline]
+pub fn numbers<const N: usize>(frame: &[u8], at: usize) -> [f64; N] {
+    std::array::from_fn(|index| number(frame, at + 8 * index))
+}
+
+#[inline]
+pub fn all_finite(numbers: &[f64]) -> bool {
+    numbers.iter().all(|number| number.is_finite())
+}

@@ -1,0 +1,13 @@
+//! The line entry of document 01 in Rust, over the build-time copy of the
+//! sources. `answer_line` has the shape of the C entry: a request, a lent reply,
+//! and a number that is 0 for a reply.
+
+mod answer;
+pub mod check;
+pub mod digits;
+pub mod frame;
+pub mod quartics;
+mod reply;
+pub mod shapes;
+
+pub use answer::answer_line;

@@ -1,0 +1,79 @@
+//! Kinds 01 to 05: one shape from a default record.
+
+use crate::quartics::{need, polynoms};
+use crate::{frame, reply};
+use rsruckig::hand_in::{self, RootAnswer};
+use rsruckig::position_third_step2::PositionThirdOrderStep2;
+use rsruckig::profile::Profile;
+
+pub fn answer(kind: u8, bytes: &[u8; frame::LONGEST], places: &mut [u8]) -> u32 {
+    let numbers: [f64; 12] = frame::numbers(bytes, frame::NUMBERS);
+    let has_answers = kind == frame::ACC1_VEL || kind == frame::ACC0_VEL;
+    let answers = if has_answers {
+        [0, 1].map(|index| root_answer(bytes, index))
+    } else {
+        [RootAnswer::default(); 2]
+    };
+    if answers.iter().any(|answer| answer.count > 3) {
+        return 5;
+    }
+    if !frame::all_finite(&numbers) {
+        return 6;
+    }
+    let mut solver = solver(&numbers);
+    if has_answers {
+        let polynoms = polynoms(kind, &solver, &numbers);
+        if (0..2).any(|index| !suits(answers[index].count, need(&polynoms[index]))) {
+            return 7;
+        }
+    }
+    let Some(places) = places.first_chunk_mut() else {
+        return 8;
+    };
+
+    hand_in::set(answers);
+    let [_, p0, v0, a0, pf, vf, af, ..] = numbers;
+    let mut profile = Profile::default();
+    profile.set_boundary(p0, v0, a0, pf, vf, af);
+    let yes = ask(kind, &mut solver, &mut profile, &numbers);
+    reply::write(yes, &profile, places);
+    0
+}
+
+pub fn solver(numbers: &[f64; 12]) -> PositionThirdOrderStep2 {
+    let [tf, p0, v0, a0, pf, vf, af, v_max, v_min, a_max, a_min, j_max] = *numbers;
+    PositionThirdOrderStep2::new(tf, p0, v0, a0, pf, vf, af, v_max, v_min, a_max, a_min, j_max)
+}
+
+fn ask(
+    kind: u8,
+    solver: &mut PositionThirdOrderStep2,
+    profile: &mut Profile,
+    numbers: &[f64; 12],
+) -> bool {
+    let [.., v_max, v_min, a_max, a_min, j_max] = *numbers;
+    match kind {
+        frame::ACC0_ACC1_VEL => {
+            solver.time_acc0_acc1_vel(profile, v_max, v_min, a_max, a_min, j_max)
+        }
+        frame::ACC1_VEL => solver.time_acc1_vel(profile, v_max, v_min, a_max, a_min, j_max),
+        frame::ACC0_VEL => solver.time_acc0_vel(profile, v_max, v_min, a_max, a_min, j_max),
+        frame::ACC0_ACC1 => solver.time_acc0_acc1(profile, v_max, v_min, a_max, a_min, j_max),
+        frame::ACC0 => solver.time_acc0(profile, v_max, v_min, a_max, a_min, j_max),
+        _ => unreachable!(),
+    }
+}
+
+fn root_answer(bytes: &[u8; frame::LONGEST], index: usize) -> RootAnswer {
+    let at = frame::ANSWERS + index * frame::ANSWER_LENGTH;
+    RootAnswer { count: bytes[at], values: frame::numbers(bytes, at + 1) }
+}
+
+/// Question 7 for one quartic.
+fn suits(count: u8, need: u8) -> bool {
+    match need {
+        0 => true,
+        1 => count == 0,
+        _ => count >= 1,
+    }
+}
