@@ -45,12 +45,7 @@ pub fn quartics() -> ([Quartic; 2], usize) {
 pub fn next_quartic(polynom: &[f64; 4]) {
     let call = CALLS.get();
     CALLS.set(call + 1);
-    record(call, |quartic| {
-        *quartic = Quartic {
-            polynom: *polynom,
-            ..Quartic::default()
-        }
-    });
+    record(call, |quartic| *quartic = Quartic { polynom: *polynom, ..Quartic::default() });
 }
 
 pub fn cube_root() -> f64 {

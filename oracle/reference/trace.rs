@@ -31,11 +31,7 @@ pub fn checks() -> ([Check; MOST], usize) {
 pub fn check(signs: u8, label: u8) {
     let mut checks = CHECKS.get();
     let count = COUNT.get() % MOST;
-    checks[count] = Check {
-        signs,
-        label,
-        cause: 0,
-    };
+    checks[count] = Check { signs, label, cause: 0 };
     CHECKS.set(checks);
     COUNT.set(count + 1);
 }
