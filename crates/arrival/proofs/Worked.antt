@@ -1,0 +1,82 @@
+-- The theorem's premises can be met: a move of seven phases of 1 second, jerk 1, from rest at 0 to rest at 8, under a label that sets a[3] to 0. `check` says yes, and the theorem applies. Assumes nothing.
+use mathlib.Core.Path.{_≡_, refl}
+use mathlib.Core.Bool.{true, false}
+use mathlib.Core.List.{List, [], _∷_}
+use Prim.Native.Nat.{ℕ, _*_}
+use lib.Dec.{T, lit≤}
+use lib.Ieee.Bits.{ofBits-fits}
+use lib.Ieee.{Float, binary64, ofBits, neg, add, sub, mul, div, lt, le, fits}
+use Rattle.float.specs.Ops.{#0, #1, #2, #8}
+use Rattle.float.specs.Helpers.{absOf}
+use Rattle.util.specs.Integrate.{integrateOf}
+use Rattle.profile.specs.declared.ReachedLimits.the-variants.{Acc0Acc1Vel, None}
+use Rattle.profile.specs.declared.ControlSigns.the-variants.{UDDU}
+use Rattle.profile.specs.declared.Direction.the-variants.{UP}
+use Rattle.profile.specs.declared.Profile.{Profile}
+use Rattle.profile.specs.Labels.{testsOf}
+use Rattle.profile.specs.Signs.{jerksOf}
+use Rattle.profile.specs.Run.{run}
+use Rattle.profile.specs.Times.{sumStep, sumsOf, refusedOf}
+use Rattle.profile.specs.Limit.{bandOf}
+use Rattle.profile.specs.Phase.{replacedOf, zeroInsideOf, nodeOf, phaseOf}
+use Rattle.profile.specs.Check.{arrivedOf, keptOf, checkOf}
+use Rattle.rounding.specs.Exact.{Size}
+use Rattle.rounding.specs.Value.{unit, mag, sign, val}
+use Rattle.rounding.specs.Motion.{motion, lasts}
+use Rattle.arrival.specs.Reply.{time, jerk, Held, Number, Within, Residual}
+use Rattle.arrival.specs.Arrives.{Arrives, demanded}
+use Rattle.arrival.proofs.Steps.{by-seven}
+use Rattle.arrival.proofs.CheckArrives.{reply, check-arrives}
+
+abbrev zeros : List Float
+zeros = #0 ∷ #0 ∷ #0 ∷ #0 ∷ #0 ∷ #0 ∷ #0 ∷ []
+
+abbrev seven : List Float
+seven = #1 ∷ #1 ∷ #1 ∷ #1 ∷ #1 ∷ #1 ∷ #1 ∷ []
+
+abbrev asked : Profile
+asked = record { t = seven; «t_sum» = zeros; j = zeros; a = #0 ∷ zeros; v = #0 ∷ zeros; p = #0 ∷ zeros; pf = #8; vf = #0; af = #0; limits = None; direction = UP; «control_signs» = UDDU }
+
+abbrev left : Profile
+left = reply UDDU Acc0Acc1Vel #1 #2 (neg #2) #1 (neg #1) asked
+
+held : Held asked
+held =
+    let one = ofBits-fits binary64 0x3FF0_0000_0000_0000 in
+    let none = ofBits-fits binary64 0 in
+    record {
+      eight-a = refl;
+      eight-v = refl;
+      eight-p = refl;
+      held-t = by-seven (λ (i : ℕ). T (fits binary64 (time asked i))) one one one one one one one;
+      held-a = none;
+      held-v = none;
+      held-p = none;
+      held-pf = ofBits-fits binary64 0x4020_0000_0000_0000;
+      held-vf = none;
+      held-af = none;
+    }
+
+-- all of it computes
+met : (checkOf UDDU Acc0Acc1Vel false #1 #2 (neg #2) #1 (neg #1) asked .ok ≡ true) × Within left × Residual 0 Acc0Acc1Vel left × Number #1 × Number #2 × Number (neg #1) × Number (neg #2)
+unfolding checkOf sumsOf sumStep run refusedOf testsOf jerksOf phaseOf nodeOf replacedOf zeroInsideOf integrateOf bandOf arrivedOf keptOf absOf ofBits neg add sub mul div lt le fits unit mag sign val motion lasts
+met = (
+  refl,
+  record {
+    start-p = record { over = lit≤ tt; under = lit≤ tt };
+    start-v = record { over = lit≤ tt; under = lit≤ tt };
+    start-a = record { over = lit≤ tt; under = lit≤ tt };
+    total = lit≤ tt;
+    jerks =
+        by-seven (λ (i : ℕ). Size (val (jerk left i)) (64 * unit)) (record { over = lit≤ tt; under = lit≤ tt }) (record { over = lit≤ tt; under = lit≤ tt }) (record { over = lit≤ tt; under = lit≤ tt }) (record { over = lit≤ tt; under = lit≤ tt })
+        (record { over = lit≤ tt; under = lit≤ tt }) (record { over = lit≤ tt; under = lit≤ tt }) (record { over = lit≤ tt; under = lit≤ tt });
+  },
+  λ h. record { held = tt; err = 0; near = record { over = lit≤ tt; under = lit≤ tt }; bound = lit≤ tt },
+  (tt, tt),
+  (tt, tt),
+  (tt, tt),
+  (tt, tt),
+)
+
+pub move-arrives : Arrives demanded #2 (neg #2) #1 (neg #1) left
+move-arrives = check-arrives UDDU Acc0Acc1Vel #1 #2 (neg #2) #1 (neg #1) asked held (met .3 .0) (met .4) (met .6) (met .3) (met .5) (met .0) 0 (lit≤ tt) (met .1) (met .2)

@@ -1,0 +1,28 @@
+-- The moves that document 01 works through: each gets the verdict and the numbers that the document gives. Computed; assumes nothing.
+use mathlib.Core.Bool.{true}
+use mathlib.Core.Path.{_≡_, refl}
+use lib.Ieee.{ofBits, toBits, lt, le, eq, neg, add, sub, mul, div}
+use Rattle.float.specs.Helpers.{absOf}
+use Rattle.util.specs.Integrate.{integrateOf}
+use Rattle.sqrt.specs.Sqrt.{sqrtOf}
+use Rattle.roots.specs.Set.{holds, insertOf, insertAllOf, intoOf, sortedOf}
+use Rattle.roots.specs.Quartic.{needOf, factorsOf, quadraticOf, withoutCdOf, withCbrtOf, resolvedOf, offeredOf, rootsOf}
+use Rattle.profile.specs.Labels.{testsOf}
+use Rattle.profile.specs.Signs.{jerksOf}
+use Rattle.profile.specs.Run.{run}
+use Rattle.profile.specs.Times.{sumStep, sumsOf, refusedOf}
+use Rattle.profile.specs.Limit.{bandOf}
+use Rattle.profile.specs.Phase.{replacedOf, zeroInsideOf, nodeOf, phaseOf}
+use Rattle.profile.specs.Check.{arrivedOf, keptOf, checkOf}
+use Rattle.profile.specs.Boundary.{boundaryOf}
+use Rattle.step2_solver.specs.New.{newOf}
+use Rattle.step2_solver.specs.TimeAcc0Acc1Vel.{acc0Acc1VelUdduApplies, acc0Acc1VelUdduRadicand, acc0Acc1VelUdduH1, acc0Acc1VelUdduT1, acc0Acc1VelUdduTimes, acc0Acc1VelUdudApplies, acc0Acc1VelUdudT1, acc0Acc1VelUdudT3, acc0Acc1VelUdudTimes}
+use Rattle.step2_solver.specs.TimeAcc0Acc1.{acc0Acc1RestApplies, acc0Acc1RestH1, acc0Acc1RestH2, acc0Acc1RestJf, acc0Acc1RestT1, acc0Acc1RestTimes}
+use Rattle.position_third_step2.specs.Attempt.{attemptOf}
+use Rattle.position_third_step2.specs.TimeAcc0Acc1Vel.{acc0Acc1VelUddu, acc0Acc1VelUdud, timeAcc0Acc1VelOf}
+use Rattle.position_third_step2.specs.TimeAcc0Acc1.{acc0Acc1Rest, timeAcc0Acc1Of}
+use Rattle.marked_moves.specs.Moves.{asked, moved, table, right}
+
+pub marked-moves : right table ≡ true
+unfolding ofBits toBits lt le eq neg add sub mul div absOf integrateOf sqrtOf holds insertOf insertAllOf intoOf sortedOf needOf factorsOf quadraticOf withoutCdOf withCbrtOf resolvedOf offeredOf rootsOf testsOf jerksOf run sumStep sumsOf refusedOf bandOf replacedOf zeroInsideOf nodeOf phaseOf arrivedOf keptOf checkOf boundaryOf newOf acc0Acc1VelUdduApplies acc0Acc1VelUdduRadicand acc0Acc1VelUdduH1 acc0Acc1VelUdduT1 acc0Acc1VelUdduTimes acc0Acc1VelUdudApplies acc0Acc1VelUdudT1 acc0Acc1VelUdudT3 acc0Acc1VelUdudTimes acc0Acc1RestApplies acc0Acc1RestH1 acc0Acc1RestH2 acc0Acc1RestJf acc0Acc1RestT1 acc0Acc1RestTimes attemptOf acc0Acc1VelUddu acc0Acc1VelUdud timeAcc0Acc1VelOf acc0Acc1Rest timeAcc0Acc1Of asked moved table
+marked-moves = refl

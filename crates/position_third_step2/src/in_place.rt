@@ -1,0 +1,128 @@
+// A shape asked in place: the profile's arrays are lent, so that nothing is copied from one attempt to the next.
+use super::Shape;
+use super::acc0::time_acc0;
+use super::acc0_acc1::time_acc0_acc1;
+use super::acc0_acc1_vel::time_acc0_acc1_vel;
+use super::acc0_vel::time_acc0_vel;
+use super::acc1_vel::time_acc1_vel;
+use profile::in_place::Answer;
+use profile::in_place::Goal;
+use profile::in_place::Labels;
+use roots::RootAnswer;
+use step2_solver::PositionThirdOrderStep2;
+ghost use mathlib.Core.Path.{_≡_};
+ghost use Rattle.profile.specs.Phase.{Nodes};
+ghost use Rattle.profile.specs.Check.{profileOf};
+ghost use Rattle.position_third_step2.specs.Shape.{shapeOf};
+
+// The root answers are for the two quartics of the second and third shape; the others do not look at them.
+pub fn ask(
+    shape: Shape,
+    s: PositionThirdOrderStep2,
+    first: RootAnswer,
+    second: RootAnswer,
+    t: &mut [f64; 7],
+    t_sum: &mut [f64; 7],
+    j: &mut [f64; 7],
+    a: &mut [f64; 8],
+    v: &mut [f64; 8],
+    p: &mut [f64; 8],
+    goal: Goal,
+    labels: Labels,
+    v_max: f64,
+    v_min: f64,
+    a_max: f64,
+    a_min: f64,
+    j_max: f64,
+) -> Answer
+    ensures { λ r. ⌜ record { ok = r .ok; profile = profileOf (now (t .exit)) (now («t_sum» .exit)) (now (j .exit)) (record { a = now (a .exit); v = now (v .exit); p = now (p .exit) }) goal (r .labels) }
+        ≡ shapeOf shape s first second «v_max» «v_min» «a_max» «a_min» «j_max»
+        (profileOf (now (t .entry)) (now («t_sum» .entry)) (now (j .entry)) (record { a = now (a .entry); v = now (v .entry); p = now (p .entry) }) goal labels) ⌝ }
+{
+    match shape {
+        Shape::Acc0Acc1Vel => time_acc0_acc1_vel(
+            s,
+            t,
+            t_sum,
+            j,
+            a,
+            v,
+            p,
+            goal,
+            labels,
+            v_max,
+            v_min,
+            a_max,
+            a_min,
+            j_max,
+        ),
+        Shape::Acc1Vel => time_acc1_vel(
+            s,
+            first,
+            second,
+            t,
+            t_sum,
+            j,
+            a,
+            v,
+            p,
+            goal,
+            labels,
+            v_max,
+            v_min,
+            a_max,
+            a_min,
+            j_max,
+        ),
+        Shape::Acc0Vel => time_acc0_vel(
+            s,
+            first,
+            second,
+            t,
+            t_sum,
+            j,
+            a,
+            v,
+            p,
+            goal,
+            labels,
+            v_max,
+            v_min,
+            a_max,
+            a_min,
+            j_max,
+        ),
+        Shape::Acc0Acc1 => time_acc0_acc1(
+            s,
+            t,
+            t_sum,
+            j,
+            a,
+            v,
+            p,
+            goal,
+            labels,
+            v_max,
+            v_min,
+            a_max,
+            a_min,
+            j_max,
+        ),
+        Shape::Acc0 => time_acc0(
+            s,
+            t,
+            t_sum,
+            j,
+            a,
+            v,
+            p,
+            goal,
+            labels,
+            v_max,
+            v_min,
+            a_max,
+            a_min,
+            j_max,
+        ),
+    }
+}

@@ -1,0 +1,232 @@
+-- What holds of every quartic's roots: at most four, none below 0 or NaN, each an f64; and of the order of trial, which keeps these and ascends.
+-- Assumes nothing.
+use Prim.Native.Nat.{ℕ, zero, suc, _*_, _≤_, _<_, zero-le}
+use mathlib.Core.Path.{_≡_, refl, sym, _∙_}
+use mathlib.Core.Bool.{Bool, true, false, not, cond, true≢false}
+use mathlib.Core.List.{List, [], _∷_, _++_}
+use native.Mathlib.Omega.{arith}
+use lib.Dec.{T, ltb}
+use lib.ListN.{length, getD, length-append, length-take, List·getD-append}
+use lib.Seq.{getD-take}
+use lib.Ieee.{Float, nan, inf, fin, binary64, ofBits, lt, le, neg, fits, isNan, up, down, below}
+use lib.Ieee.Fits.{neg-fits, div-fits}
+use lib.Ieee.Bits.{ofBits-fits}
+use borrow.Author.Tests.{ltb-true, le-ltb}
+use Rattle.float.specs.Ops.{_⊕_, _⊖_, _⊗_, _⊘_, #0, #2, #4, #ε, #16ε}
+use Rattle.float.specs.Helpers.{absOf}
+use Rattle.sqrt.specs.Sqrt.{sqrtOf}
+use Rattle.roots.specs.declared.Three.{Three}
+use Rattle.roots.specs.declared.Need.{Need}
+use Rattle.roots.specs.declared.Need.the-variants.{Nothing, Cube, Resolvent}
+use Rattle.roots.specs.declared.RootAnswer.{RootAnswer}
+use Rattle.roots.specs.declared.RootAnswer.the-variants.{CubeRoot, Resolved}
+use Rattle.roots.specs.Set.{placesOf, insertOf, insertAllOf, intoOf, sortedOf}
+use Rattle.roots.specs.Quartic.{needOf, chosenOf, factorsOf, quadraticOf, withoutCdOf, withCbrtOf, resolvedOf, offeredOf, rootsOf}
+use Rattle.roots.proofs.Sets.{insert-cases, insertAll-length, sorted-length}
+
+-- ---- a fact of every number of a list
+abbrev pub Every : (Float → Type 0) → List Float → Type 0
+Every P [] = Unit {0}
+Every P (x ∷ l) = P x × Every P l
+
+module _ (P : Float → Type 0) where
+  pub every-at : (l : List Float) → Every P l → (i : ℕ) (z : Float) → i < length l → P (getD l i z)
+  every-at [] e i z h = absurd (omega arith)
+  every-at (x ∷ l) e zero z h = e .0
+  every-at (x ∷ l) e (suc i) z h = every-at l (e .1) i z (omega arith)
+
+  pub every-of-all : ((x : Float) → P x) → (l : List Float) → Every P l
+  every-of-all f [] = tt
+  every-of-all f (x ∷ l) = (f x, every-of-all f l)
+
+  pub every-append : (l m : List Float) → Every P l → Every P m → Every P (l ++ m)
+  every-append [] m e f = f
+  every-append (x ∷ l) m e f = (e .0, every-append l m (e .1) f)
+
+-- what joins a set is not below 0
+module _ (P : Float → Type 0) where
+  pub every-insertAll : (vs l : List Float) → Every (λ v. T (le #0 v) → P v) vs → Every P l → Every P (insertAllOf l vs)
+  unfolding insertAllOf
+  every-insertAll [] l e f = f
+  every-insertAll (v ∷ vs) l e f =
+      every-insertAll vs (insertOf l v) (e .1) (insert-cases (Every P) l v (λ t r. every-append P l (v ∷ []) f (e .0 t, tt)) f)
+
+-- ---- a quadratic factor offers at most two numbers
+quadratic-cases : (P : List Float → Type 0) (eps p q : Float) → ((x : Float) → P ((x ⊘ #2) ∷ [])) → ((x y : Float) → P ((x ⊘ #2) ∷ (y ⊘ #2) ∷ [])) → P [] → P (quadraticOf eps p q)
+unfolding quadraticOf
+quadratic-cases P eps p q one two none = go (p ⊗ p ⊖ #4 ⊗ q)
+  where
+    choose : (b c : Bool) (x y z : Float) → P (cond b ((x ⊘ #2) ∷ []) (cond c ((y ⊘ #2) ∷ (z ⊘ #2) ∷ []) []))
+    choose true c x y z = one x
+    choose false true x y z = two y z
+    choose false false x y z = none
+
+    go : (e : Float) → P (cond (lt (absOf e) eps) ((neg p ⊘ #2) ∷ []) (cond (lt #0 e) (((neg p ⊖ sqrtOf e) ⊘ #2) ∷ ((neg p ⊕ sqrtOf e) ⊘ #2) ∷ []) []))
+    go e = choose (lt (absOf e) eps) (lt #0 e) (neg p) (neg p ⊖ sqrtOf e) (neg p ⊕ sqrtOf e)
+
+quadratic-length : (eps p q : Float) → length (quadraticOf eps p q) ≤ 2
+quadratic-length eps p q = quadratic-cases (λ l. length l ≤ 2) eps p q (λ x. omega arith) (λ x y. omega arith) (omega arith)
+
+abbrev pub Fits64 : Float → Type 0
+Fits64 x = T (fits binary64 x)
+
+quadratic-fits : (eps p q : Float) → Every Fits64 (quadraticOf eps p q)
+quadratic-fits eps p q =
+    quadratic-cases (Every Fits64) eps p q (λ x. (div-fits binary64 x #2, tt)) (λ x y. (div-fits binary64 x #2, (div-fits binary64 y #2, tt))) tt
+
+-- ---- what the quartic offers: at most four numbers, so no number finds the set full
+resolved-length : (a b c d : Float) (count : ℕ) (x : Three) → length (resolvedOf a b c d count x) ≤ 4
+unfolding resolvedOf
+resolved-length a b c d count x =
+    let f = factorsOf a b c d (chosenOf count x) in
+    sum (quadraticOf #16ε (f .p1) (f .q1)) (quadraticOf #16ε (f .p2) (f .q2)) (quadratic-length #16ε (f .p1) (f .q1)) (quadratic-length #16ε (f .p2) (f .q2))
+  where
+    sum : (l m : List Float) → length l ≤ 2 → length m ≤ 2 → length (l ++ m) ≤ 4
+    sum l m h k = simp length-append (omega arith)
+
+pub offered-length : (a b c d : Float) (n : Need) (answer : RootAnswer) → length (offeredOf a b c d n answer) ≤ 4
+unfolding offeredOf withoutCdOf withCbrtOf
+offered-length a b c d Nothing answer = omega (arith, quadratic-length #ε a b)
+offered-length a b c d Cube (CubeRoot r) = omega arith
+offered-length a b c d Cube (Resolved n x) = omega arith
+offered-length a b c d Resolvent (CubeRoot r) = omega arith
+offered-length a b c d Resolvent (Resolved n x) = resolved-length a b c d n x
+
+-- an answer whose cube root is an f64, as every argument of the code is
+abbrev pub AnswerFits : RootAnswer → Type 0
+AnswerFits (CubeRoot r) = Fits64 r
+AnswerFits (Resolved n x) = Unit {0}
+
+resolved-fits : (a b c d : Float) (count : ℕ) (x : Three) → Every Fits64 (resolvedOf a b c d count x)
+unfolding resolvedOf
+resolved-fits a b c d count x =
+    let f = factorsOf a b c d (chosenOf count x) in
+    every-append Fits64 (quadraticOf #16ε (f .p1) (f .q1)) (quadraticOf #16ε (f .p2) (f .q2)) (quadratic-fits #16ε (f .p1) (f .q1)) (quadratic-fits #16ε (f .p2) (f .q2))
+
+offered-fits : (a b c d : Float) (n : Need) (answer : RootAnswer) → AnswerFits answer → Every Fits64 (offeredOf a b c d n answer)
+unfolding offeredOf withoutCdOf withCbrtOf
+offered-fits a b c d Nothing answer h = (ofBits-fits binary64 0, quadratic-fits #ε a b)
+offered-fits a b c d Cube (CubeRoot r) h = (ofBits-fits binary64 0, (neg-fits binary64 r h, tt))
+offered-fits a b c d Cube (Resolved n x) h = tt
+offered-fits a b c d Resolvent (CubeRoot r) h = tt
+offered-fits a b c d Resolvent (Resolved n x) h = resolved-fits a b c d n x
+
+-- ---- the roots
+abbrev pub NotBelow0 : Float → Type 0
+NotBelow0 x = T (le #0 x)
+
+pub roots-length : (a b c d : Float) (answer : RootAnswer) → length (rootsOf a b c d answer) ≤ 4
+unfolding rootsOf
+roots-length a b c d answer = insertAll-length (offeredOf a b c d (needOf a b c d) answer) [] zero-le
+
+pub roots-not-below : (a b c d : Float) (answer : RootAnswer) → Every NotBelow0 (rootsOf a b c d answer)
+unfolding rootsOf
+roots-not-below a b c d answer =
+    let vs = offeredOf a b c d (needOf a b c d) answer in
+    every-insertAll NotBelow0 vs [] (every-of-all (λ v. T (le #0 v) → T (le #0 v)) (λ v t. t) vs) tt
+
+pub roots-fit : (a b c d : Float) (answer : RootAnswer) → AnswerFits answer → Every Fits64 (rootsOf a b c d answer)
+unfolding rootsOf
+roots-fit a b c d answer h =
+    let vs = offeredOf a b c d (needOf a b c d) answer in
+    every-insertAll Fits64 vs [] (weaker vs (offered-fits a b c d (needOf a b c d) answer h)) tt
+  where
+    weaker : (l : List Float) → Every Fits64 l → Every (λ v. T (le #0 v) → Fits64 v) l
+    weaker [] e = tt
+    weaker (x ∷ l) e = (λ t. e .0, weaker l (e .1))
+
+-- a root is no NaN
+pub not-below-no-nan : (x : Float) → NotBelow0 x → T (not (isNan x))
+unfolding le isNan ofBits
+not-below-no-nan nan h = absurd h
+not-below-no-nan (inf s) h = tt
+not-below-no-nan (fin s m e) h = tt
+
+-- ---- the order of trial keeps what holds of every number, and their count (`sorted-length` of Sets.antt)
+module _ (P : Float → Type 0) where
+  every-into : (x : Float) (l : List Float) → P x → Every P l → Every P (intoOf x l)
+  unfolding intoOf
+  every-into x [] p e = (p, tt)
+  every-into x (y ∷ l) p e = go (lt y x) (every-into x l p (e .1))
+    where
+      go : (b : Bool) → Every P (intoOf x l) → Every P (cond b (y ∷ intoOf x l) (x ∷ y ∷ l))
+      go true f = (e .0, f)
+      go false f = (p, e)
+
+  pub every-sorted : (l : List Float) → Every P l → Every P (sortedOf l)
+  unfolding sortedOf
+  every-sorted [] e = tt
+  every-sorted (x ∷ l) e = every-into x (sortedOf l) (e .0) (every-sorted l (e .1))
+
+-- no number is below the one before it
+abbrev pub From : Float → List Float → Type 0
+From x [] = Unit {0}
+From x (y ∷ l) = lt y x ≡ false
+
+abbrev pub Ascends : List Float → Type 0
+Ascends [] = Unit {0}
+Ascends (x ∷ l) = From x l × Ascends l
+
+-- x below y, then y is not below x
+ltb-asym : (a b : ℕ) → ltb a b ≡ true → ltb b a ≡ false
+ltb-asym a b h = le-ltb b a (omega (arith, ltb-true a b h))
+
+below-asym : (s t : Bool) (a b : ℕ) → below s a t b ≡ true → below t b s a ≡ false
+below-asym false false a b h = ltb-asym a b h
+below-asym false true a b h = absurd (true≢false (sym h))
+below-asym true false a b h = refl
+below-asym true true a b h = ltb-asym b a h
+
+lt-asym : (x y : Float) → lt x y ≡ true → lt y x ≡ false
+unfolding lt
+lt-asym nan y h = absurd (true≢false (sym h))
+lt-asym (inf s) nan h = refl
+lt-asym (inf true) (inf true) h = refl
+lt-asym (inf true) (inf false) h = refl
+lt-asym (inf false) (inf t) h = absurd (true≢false (sym h))
+lt-asym (inf true) (fin t n d) h = refl
+lt-asym (inf false) (fin t n d) h = absurd (true≢false (sym h))
+lt-asym (fin s m e) nan h = refl
+lt-asym (fin s m e) (inf true) h = absurd (true≢false (sym h))
+lt-asym (fin s m e) (inf false) h = refl
+lt-asym (fin s m e) (fin t n d) h = below-asym s t (m * up e * down d) (n * up d * down e) h
+
+from-into : (y x : Float) (l : List Float) → lt y x ≡ true → From y l → From y (intoOf x l)
+unfolding intoOf
+from-into y x [] h f = lt-asym y x h
+from-into y x (z ∷ l) h f = go (lt z x)
+  where
+    go : (b : Bool) → From y (cond b (z ∷ intoOf x l) (x ∷ z ∷ l))
+    go true = f
+    go false = lt-asym y x h
+
+into-ascends : (x : Float) (l : List Float) → Ascends l → Ascends (intoOf x l)
+unfolding intoOf
+into-ascends x [] a = (tt, tt)
+into-ascends x (y ∷ l) a = go (lt y x) refl (into-ascends x l (a .1))
+  where
+    go : (b : Bool) → lt y x ≡ b → Ascends (intoOf x l) → Ascends (cond b (y ∷ intoOf x l) (x ∷ y ∷ l))
+    go true h r = (from-into y x l h (a .0), r)
+    go false h r = (h, a)
+
+pub sorted-ascends : (l : List Float) → Ascends (sortedOf l)
+unfolding sortedOf
+sorted-ascends [] = tt
+sorted-ascends (x ∷ l) = into-ascends x (sortedOf l) (sorted-ascends l)
+
+-- ---- the roots in the order of trial
+pub tried-length : (a b c d : Float) (answer : RootAnswer) → length (sortedOf (rootsOf a b c d answer)) ≤ 4
+tried-length a b c d answer = rw (sorted-length (rootsOf a b c d answer)) (roots-length a b c d answer)
+
+pub tried-not-below : (a b c d : Float) (answer : RootAnswer) → Every NotBelow0 (sortedOf (rootsOf a b c d answer))
+tried-not-below a b c d answer = every-sorted NotBelow0 (rootsOf a b c d answer) (roots-not-below a b c d answer)
+
+pub tried-fit : (a b c d : Float) (answer : RootAnswer) → AnswerFits answer → Every Fits64 (sortedOf (rootsOf a b c d answer))
+tried-fit a b c d answer h = every-sorted Fits64 (rootsOf a b c d answer) (roots-fit a b c d answer h)
+
+-- ---- the places of a set that holds the numbers of a list
+pub places-length : (l : List Float) → length (placesOf l .«data») ≡ 4
+places-length l = simp (length-take, length-append) (omega arith)
+
+pub place-at : (l : List Float) → length l ≤ 4 → (i : ℕ) (z : Float) → i < length l → getD (placesOf l .«data») i z ≡ getD l i z
+place-at l h i z k = getD-take 4 (l ++ (#0 ∷ #0 ∷ #0 ∷ #0 ∷ [])) i z (omega arith) ∙ List·getD-append l (#0 ∷ #0 ∷ #0 ∷ #0 ∷ []) z i k

@@ -1,0 +1,4 @@
+pub mod Sets
+pub mod Branches
+pub mod Examples
+pub mod Laws

@@ -1,0 +1,78 @@
+-- `roots::PositiveSet::sorted` is `sortedOf` of what the set holds, by its length. Assumes nothing.
+use mathlib.Core.Path.{_≡_}
+use lib.ListN.{length, length-map}
+use borrow.Author.Needs.{needs}
+use Rattle.roots.specs.Set.{sortedOf}
+use Rattle.roots.proofs.Sets.{held0, held1, held2, held3, held4, beyond}
+use Rattle.roots.proofs.PositiveSet.sorted.Statement.{statement}
+use Rattle.roots.proofs.PositiveSet.sorted.Tie as tie
+
+four : (c : tie.Start) → length (c .args .t1 .«data») ≡ 4
+four c = simp length-map at (c .good .0 .1 .1 .0 .1 .0 .1)
+
+element-copy-out-x0 : tie.Need-element-copy-out-x0
+element-copy-out-x0 c = search needs
+
+element-copy-out-x1 : tie.Need-element-copy-out-x1
+element-copy-out-x1 c = search needs
+
+element-copy-out-x2 : tie.Need-element-copy-out-x2
+element-copy-out-x2 c = search needs
+
+element-copy-out-x3 : tie.Need-element-copy-out-x3
+element-copy-out-x3 c = search needs
+
+set0-requires : tie.Need-set0-requires
+set0-requires c κs = search needs
+
+set1-requires : tie.Need-set1-requires
+set1-requires c κs = search needs
+
+into1-requires : tie.Need-into1-requires
+into1-requires c κs = search needs
+
+sort3-requires : tie.Need-sort3-requires
+sort3-requires c κs = search needs
+
+sort4-requires : tie.Need-sort4-requires
+sort4-requires c κs = search needs
+
+returns : tie.Need-returns
+unfolding sortedOf
+returns c = let s = c .before .before .before .before .before .before in rw (c .set0 .ensures, held0 (s .args .t1) (four s) (c .before .match .keys1))
+
+returns-2 : tie.Need-returns-2
+unfolding sortedOf
+returns-2 c = let s = c .before .before .before .before .before .before in rw (c .set1 .ensures, held1 (s .args .t1) (four s) (c .before .match .keys2))
+
+returns-3 : tie.Need-returns-3
+unfolding sortedOf
+returns-3 c = let s = c .before .before .before .before .before .before in rw (c .into1 .ensures, held2 (s .args .t1) (four s) (c .before .match .keys3))
+
+returns-4 : tie.Need-returns-4
+returns-4 c = let s = c .before .before .before .before .before .before in rw (c .sort3 .ensures, held3 (s .args .t1) (four s) (c .before .match .keys4))
+
+returns-5 : tie.Need-returns-5
+returns-5 c =
+    let s = c .before .before .before .before .before .before in
+    let r = c .before .match .rest in
+    rw (c .sort4 .ensures, held4 (s .args .t1) (four s) (beyond (s .args .t1 .len) (r .0 .0 .0 .1) (r .0 .0 .1) (r .0 .1) (r .1)))
+
+pub sorted-spec : {M : Type 1} → statement M
+sorted-spec =
+    tie.close
+    (tie.spec
+    element-copy-out-x0
+    element-copy-out-x1
+    element-copy-out-x2
+    element-copy-out-x3
+    set0-requires
+    set1-requires
+    into1-requires
+    sort3-requires
+    sort4-requires
+    returns
+    returns-2
+    returns-3
+    returns-4
+    returns-5)

@@ -1,0 +1,13 @@
+pub mod Linear
+pub mod Unit
+pub mod Rounding
+pub mod Operands
+pub mod Ops
+pub mod Literals
+pub mod Compare
+pub mod Bounds
+pub mod Limits
+pub mod Phase
+pub mod Run
+pub mod Arrival
+pub mod Worked

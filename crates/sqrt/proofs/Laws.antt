@@ -1,0 +1,62 @@
+-- What a caller asks of a square root: what it is by what its argument is (`sqrtOf-kind`), that the format holds it (`sqrtOf-fits`), and what a finite root says of its argument (`sqrtOf-finite`). Assumes nothing.
+use mathlib.Core.Path.{_≡_, refl, sym, ap, _∙_, subst}
+use mathlib.Core.Logic.{_⊎_, inl, inr}
+use Prim.Native.Nat.{ℕ, zero, suc, _*_, _^_}
+use native.Mathlib.Nat.{zero-lt-suc, mul-one, one-mul, pow-succ'}
+use native.Mathlib.Omega.{arith}
+use mathlib.Core.Bool.{Bool, true, false}
+use lib.IntN.{ℤ, pos, negsuc}
+use lib.Dec.{T, ltb, eqb, lt→ltb, eqb→eq}
+use lib.Ieee.{Float, nan, inf, fin, binary64, up, down, fits}
+use lib.Ieee.Fits.{nan-fits, inf-fits}
+use lib.Ieee.Bits.{cond-no}
+use lib.Ieee.Scale.{finite}
+use lib.Ieee.Positive.{positive}
+use Rattle.sqrt.specs.Sqrt.{sqrtOf}
+use Rattle.sqrt.proofs.Cases.{not-zero-test}
+use Rattle.sqrt.proofs.Nearest.{sqrt-nearest}
+
+pub data Kind (x : Float) : Type 0 where
+  -- x is a NaN or below zero
+  none : sqrtOf x ≡ nan → Kind x
+  -- x is a zero, and the root is the same zero
+  zeros : (s : Bool) → x ≡ fin s 0 (pos 0) → sqrtOf x ≡ x → Kind x
+  above : T (positive x) → T (positive (sqrtOf x)) → Kind x
+  infinite : x ≡ inf false → sqrtOf x ≡ inf false → Kind x
+
+-- 2 ^ e is 1 / 1 only for e = 0
+not-one : (x y : ℕ) → x ≡ 2 * y → x ≡ 1 → ⊥
+not-one x y p q = omega arith
+
+one-exponent : (e : ℤ) → up e * down e ≡ 1 → e ≡ pos 0
+one-exponent (pos zero) h = refl
+one-exponent (pos (suc k)) h = absurd (not-one (2 ^ suc k) (2 ^ k) (pow-succ' 2 k) (sym (mul-one (2 ^ suc k)) ∙ h))
+one-exponent (negsuc k) h = absurd (not-one (2 ^ suc k) (2 ^ k) (pow-succ' 2 k) (sym (one-mul (2 ^ suc k)) ∙ h))
+
+pub sqrtOf-kind : (x : Float) → T (fits binary64 x) → Kind x
+unfolding sqrtOf fits
+sqrtOf-kind nan f = none refl
+sqrtOf-kind (inf true) f = none refl
+sqrtOf-kind (inf false) f = infinite refl refl
+sqrtOf-kind (fin s zero e) f = zeros s (ap (fin s 0) (one-exponent e (eqb→eq (up e * down e) 1 f))) refl
+sqrtOf-kind (fin true (suc m) e) f = none (cond-no (eqb (suc m) 0) _ _ (not-zero-test m))
+sqrtOf-kind (fin false (suc m) e) f = let p : T (ltb 0 (suc m)) = lt→ltb 0 (suc m) (zero-lt-suc m) in above p (sqrt-nearest (fin false (suc m) e) f p .above-zero)
+
+pub sqrtOf-fits : (x : Float) → T (fits binary64 x) → T (fits binary64 (sqrtOf x))
+sqrtOf-fits x f = go (sqrtOf-kind x f)
+  where
+    go : Kind x → T (fits binary64 (sqrtOf x))
+    go (none r) = subst (λ (v : Float). T (fits binary64 v)) (sym r) (nan-fits binary64)
+    go (zeros s z r) = subst (λ (v : Float). T (fits binary64 v)) (sym r) f
+    go (above p r) = sqrt-nearest x f p .held
+    go (infinite i r) = subst (λ (v : Float). T (fits binary64 v)) (sym r) (inf-fits binary64 false)
+
+-- a finite root is that of a zero or of a finite number above zero
+pub sqrtOf-finite : (x : Float) → T (fits binary64 x) → T (finite (sqrtOf x)) → ((s : Bool) × (x ≡ fin s 0 (pos 0))) ⊎ T (positive x)
+sqrtOf-finite x f t = go (sqrtOf-kind x f)
+  where
+    go : Kind x → ((s : Bool) × (x ≡ fin s 0 (pos 0))) ⊎ T (positive x)
+    go (none r) = absurd (subst (λ (v : Float). T (finite v)) r t)
+    go (zeros s z r) = inl (s, z)
+    go (above p r) = inr p
+    go (infinite i r) = absurd (subst (λ (v : Float). T (finite v)) r t)

@@ -1,0 +1,4 @@
+pub mod New
+pub mod TimeAcc0Acc1Vel
+pub mod TimeAcc0Acc1
+pub mod TimeAcc0

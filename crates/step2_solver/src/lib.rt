@@ -1,0 +1,131 @@
+// position_third_step2.rs: the solver's record and, a file for each shape, every expression of the three shapes that find no
+// roots. A time with a long numerator has a function of its own, and the times take its value, as they take h1 or jf: but for
+// rounding they add up to tf whatever those are.
+
+pub mod time_acc0;
+pub mod time_acc0_acc1;
+pub mod time_acc0_acc1_vel;
+
+ghost use mathlib.Core.Path.{_≡_};
+ghost use Rattle.step2_solver.specs.New.{newOf};
+
+// The boundary numbers and their powers. The Rust keeps five limits and a flag besides, which these shapes never read.
+pub struct PositionThirdOrderStep2 {
+    pub v0: f64,
+    pub a0: f64,
+    pub tf: f64,
+    pub vf: f64,
+    pub af: f64,
+
+    // Pre-calculated expressions
+    pub pd: f64,
+    pub tf_tf: f64,
+    pub tf_p3: f64,
+    pub tf_p4: f64,
+    pub vd: f64,
+    pub vd_vd: f64,
+    pub vf_vf: f64,
+    pub ad: f64,
+    pub ad_ad: f64,
+    pub a0_a0: f64,
+    pub af_af: f64,
+    pub a0_p3: f64,
+    pub a0_p4: f64,
+    pub a0_p5: f64,
+    pub a0_p6: f64,
+    pub af_p3: f64,
+    pub af_p4: f64,
+    pub af_p5: f64,
+    pub af_p6: f64,
+    pub j_max_j_max: f64,
+    pub g1: f64,
+    pub g2: f64,
+}
+
+// The seven times that an attempt hands to `check`: the Rust's `profile.t`.
+pub struct Times {
+    pub t0: f64,
+    pub t1: f64,
+    pub t2: f64,
+    pub t3: f64,
+    pub t4: f64,
+    pub t5: f64,
+    pub t6: f64,
+}
+
+impl PositionThirdOrderStep2 {
+    // The limits other than j_max are taken, as by the Rust, and not used.
+    pub fn new(
+        tf: f64,
+        p0: f64,
+        v0: f64,
+        a0: f64,
+        pf: f64,
+        vf: f64,
+        af: f64,
+        v_max: f64,
+        v_min: f64,
+        a_max: f64,
+        a_min: f64,
+        j_max: f64,
+    ) -> PositionThirdOrderStep2
+        ensures { λ r. ⌜ r ≡ newOf tf p0 v0 a0 pf vf af «j_max» ⌝ }
+    {
+        let pd = pf - p0;
+        let tf_tf = tf * tf;
+        let tf_p3 = tf_tf * tf;
+        let tf_p4 = tf_tf * tf_tf;
+
+        let vd = vf - v0;
+        let vd_vd = vd * vd;
+        let vf_vf = vf * vf;
+
+        let ad = af - a0;
+        let ad_ad = ad * ad;
+        let a0_a0 = a0 * a0;
+        let af_af = af * af;
+
+        let a0_p3 = a0 * a0_a0;
+        let a0_p4 = a0_a0 * a0_a0;
+        let a0_p5 = a0_p3 * a0_a0;
+        let a0_p6 = a0_p4 * a0_a0;
+        let af_p3 = af * af_af;
+        let af_p4 = af_af * af_af;
+        let af_p5 = af_p3 * af_af;
+        let af_p6 = af_p4 * af_af;
+
+        let j_max_j_max = j_max * j_max;
+
+        let g1 = -pd + tf * v0;
+        let g2 = -2.0 * pd + tf * (v0 + vf);
+        PositionThirdOrderStep2 {
+            v0,
+            a0,
+            tf,
+            vf,
+            af,
+            pd,
+            tf_tf,
+            tf_p3,
+            tf_p4,
+            vd,
+            vd_vd,
+            vf_vf,
+            ad,
+            ad_ad,
+            a0_a0,
+            af_af,
+            a0_p3,
+            a0_p4,
+            a0_p5,
+            a0_p6,
+            af_p3,
+            af_p4,
+            af_p5,
+            af_p6,
+            j_max_j_max,
+            g1,
+            g2,
+        }
+    }
+}

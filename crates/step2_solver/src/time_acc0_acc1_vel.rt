@@ -1,0 +1,137 @@
+// Expressions of `time_acc0_acc1_vel`, by the Rust's names, in its order.
+
+use crate::PositionThirdOrderStep2;
+use crate::Times;
+ghost use mathlib.Core.Path.{_≡_};
+ghost use Rattle.step2_solver.specs.TimeAcc0Acc1Vel.{acc0Acc1VelUdduApplies, acc0Acc1VelUdduRadicand, acc0Acc1VelUdduH1, acc0Acc1VelUdduT1, acc0Acc1VelUdduTimes, acc0Acc1VelUdudApplies, acc0Acc1VelUdudT1, acc0Acc1VelUdudT3, acc0Acc1VelUdudTimes};
+
+// Profile UDDU, Solution 1
+
+// Whether this attempt is made.
+pub fn uddu_applies(s: PositionThirdOrderStep2, a_max: f64, a_min: f64, j_max: f64) -> bool
+    ensures { λ r. ⌜ r ≡ acc0Acc1VelUdduApplies s «a_max» «a_min» «j_max» ⌝ }
+{
+    (2.0 * (a_max - a_min) + s.ad) / j_max < s.tf
+}
+
+pub fn uddu_radicand(s: PositionThirdOrderStep2, a_max: f64, a_min: f64, j_max: f64) -> f64
+    ensures { λ r. ⌜ r ≡ acc0Acc1VelUdduRadicand s «a_max» «a_min» «j_max» ⌝ }
+{
+    (s.a0_p4 + s.af_p4
+        - 4.0 * s.a0_p3 * (2.0 * a_max + a_min) / 3.0
+        - 4.0 * s.af_p3 * (a_max + 2.0 * a_min) / 3.0
+        + 2.0 * (s.a0_a0 - s.af_af) * a_max * a_max
+        + (4.0 * s.a0 * a_max - 2.0 * s.a0_a0)
+            * (s.af_af - 2.0 * s.af * a_min
+                + (a_min - a_max) * a_min
+                + 2.0 * j_max * (a_min * s.tf - s.vd))
+        + 2.0 * s.af_af * (a_min * a_min + 2.0 * j_max * (a_max * s.tf - s.vd))
+        + 4.0
+            * j_max
+            * (2.0 * a_min * (s.af * s.vd + j_max * s.g1)
+                + (a_max * a_max - a_min * a_min) * s.vd
+                + j_max * s.vd_vd)
+        + 8.0 * a_max * s.j_max_j_max * (s.pd - s.tf * s.vf))
+        / (a_max * a_min)
+        + 4.0 * s.af_af
+        + 2.0 * s.a0_a0
+        + (4.0 * s.af + a_max - a_min) * (a_max - a_min)
+        + 4.0 * j_max * (a_min - a_max + j_max * s.tf - 2.0 * s.af) * s.tf
+}
+
+pub fn uddu_h1(s: PositionThirdOrderStep2, a_max: f64, a_min: f64, j_max: f64) -> f64
+    ensures { λ r. ⌜ r ≡ acc0Acc1VelUdduH1 s «a_max» «a_min» «j_max» ⌝ }
+{
+    sqrt::sqrt(uddu_radicand(s, a_max, a_min, j_max)) * float::abs(j_max) / j_max
+}
+
+pub fn uddu_t1(s: PositionThirdOrderStep2, a_max: f64, a_min: f64, j_max: f64, h1: f64) -> f64
+    ensures { λ r. ⌜ r ≡ acc0Acc1VelUdduT1 s «a_max» «a_min» «j_max» h1 ⌝ }
+{
+    (-(s.af_af - s.a0_a0
+        + 2.0 * a_max * a_max
+        + a_min * (a_min - 2.0 * s.ad - 3.0 * a_max)
+        + 2.0 * j_max * (a_min * s.tf - s.vd))
+        + a_min * h1)
+        / (2.0 * (a_max - a_min) * j_max)
+}
+
+pub fn uddu_times(
+    s: PositionThirdOrderStep2,
+    a_max: f64,
+    a_min: f64,
+    j_max: f64,
+    h1: f64,
+    t1: f64,
+) -> Times
+    ensures { λ r. ⌜ r ≡ acc0Acc1VelUdduTimes s «a_max» «a_min» «j_max» h1 t1 ⌝ }
+{
+    let t0 = (-s.a0 + a_max) / j_max;
+    let t2 = a_max / j_max;
+    let t3 = (a_min - a_max + h1) / (2.0 * j_max);
+    let t4 = -a_min / j_max;
+    let t5 = s.tf - (t0 + t1 + t2 + t3 + 2.0 * t4 + s.af / j_max);
+    let t6 = t4 + s.af / j_max;
+    Times {
+        t0,
+        t1,
+        t2,
+        t3,
+        t4,
+        t5,
+        t6,
+    }
+}
+
+// Profile UDUD
+
+// Whether this attempt is made.
+pub fn udud_applies(s: PositionThirdOrderStep2, a_max: f64, j_max: f64) -> bool
+    ensures { λ r. ⌜ r ≡ acc0Acc1VelUdudApplies s «a_max» «j_max» ⌝ }
+{
+    (-s.a0 + 4.0 * a_max - s.af) / j_max < s.tf
+}
+
+pub fn udud_t1(s: PositionThirdOrderStep2, a_max: f64, j_max: f64) -> f64
+    ensures { λ r. ⌜ r ≡ acc0Acc1VelUdudT1 s «a_max» «j_max» ⌝ }
+{
+    (3.0 * (s.a0_p4 + s.af_p4) - 4.0 * (s.a0_p3 + s.af_p3) * a_max - 4.0 * s.af_p3 * a_max
+        + 24.0 * (s.a0 + s.af) * a_max * a_max * a_max
+        - 6.0 * (s.af_af + s.a0_a0) * (a_max * a_max - 2.0 * j_max * s.vd)
+        + 6.0 * s.a0_a0 * (s.af_af - 2.0 * s.af * a_max - 2.0 * a_max * j_max * s.tf)
+        - 12.0 * a_max * a_max * (2.0 * a_max * a_max - 2.0 * a_max * j_max * s.tf + j_max * s.vd)
+        - 24.0 * s.af * a_max * j_max * s.vd
+        + 12.0 * s.j_max_j_max * (2.0 * a_max * s.g1 + s.vd_vd))
+        / (12.0
+            * a_max
+            * j_max
+            * (s.a0_a0 + s.af_af - 2.0 * (s.a0 + s.af) * a_max
+                + 2.0 * (a_max * a_max - a_max * j_max * s.tf + j_max * s.vd)))
+}
+
+pub fn udud_t3(s: PositionThirdOrderStep2, a_max: f64, j_max: f64) -> f64
+    ensures { λ r. ⌜ r ≡ acc0Acc1VelUdudT3 s «a_max» «j_max» ⌝ }
+{
+    (-s.a0_a0 - s.af_af + 2.0 * a_max * (s.a0 + s.af - 2.0 * a_max) - 2.0 * j_max * s.vd)
+        / (2.0 * a_max * j_max)
+        + s.tf
+}
+
+pub fn udud_times(s: PositionThirdOrderStep2, a_max: f64, j_max: f64, t1: f64, t3: f64) -> Times
+    ensures { λ r. ⌜ r ≡ acc0Acc1VelUdudTimes s «a_max» «j_max» t1 t3 ⌝ }
+{
+    let t0 = (-s.a0 + a_max) / j_max;
+    let t2 = a_max / j_max;
+    let t4 = t2;
+    let t5 = s.tf - (t0 + t1 + t2 + t3 + 2.0 * t4 - s.af / j_max);
+    let t6 = t4 - s.af / j_max;
+    Times {
+        t0,
+        t1,
+        t2,
+        t3,
+        t4,
+        t5,
+        t6,
+    }
+}

@@ -1,0 +1,12 @@
+-- `time_acc0_vel::uddu_deriv` is `acc0VelUdduDeriv`: the same operations in the same order. Assumes nothing.
+use mathlib.Core.Path.{refl}
+use Rattle.step2_solver_quartic.specs.TimeAcc0Vel.{acc0VelUdduDeriv}
+use Rattle.step2_solver_quartic.proofs.time_acc0_vel.uddu_deriv.Statement.{statement}
+use Rattle.step2_solver_quartic.proofs.time_acc0_vel.uddu_deriv.Tie as tie
+
+returns : tie.Need-returns
+unfolding acc0VelUdduDeriv
+returns c = refl
+
+pub uddu-deriv-spec : {M : Type 1} → statement M
+uddu-deriv-spec = tie.close (tie.spec returns)

@@ -1,0 +1,2 @@
+pub mod TimeAcc1Vel
+pub mod TimeAcc0Vel
