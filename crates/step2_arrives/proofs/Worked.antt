@@ -1,0 +1,79 @@
+-- The theorem's premises can be met: document 01's move of kind 01, from rest at 0 to rest at 8 in 7 seconds, with the limits ±2 and ±1 and the jerk 1. The shape says yes, and the theorem applies. Assumes nothing.
+use mathlib.Core.Path.{_≡_, refl}
+use mathlib.Core.Bool.{true}
+use Prim.Native.Nat.{ℕ, _*_}
+use lib.Dec.{lit≤}
+use lib.Ieee.{Float, binary64, ofBits, neg, add, sub, mul, div, lt, le, fits}
+use Rattle.float.specs.Ops.{#0, #1, #2, #8}
+use Rattle.float.specs.Helpers.{absOf}
+use Rattle.sqrt.specs.Sqrt.{sqrtOf}
+use Rattle.util.specs.Integrate.{integrateOf}
+use Rattle.profile.specs.declared.Profile.{Profile}
+use Rattle.profile.specs.Labels.{testsOf}
+use Rattle.profile.specs.Signs.{jerksOf}
+use Rattle.profile.specs.Run.{run}
+use Rattle.profile.specs.Times.{sumStep, sumsOf, refusedOf}
+use Rattle.profile.specs.Limit.{bandOf}
+use Rattle.profile.specs.Phase.{replacedOf, zeroInsideOf, nodeOf, phaseOf}
+use Rattle.profile.specs.Check.{arrivedOf, keptOf, checkOf}
+use Rattle.profile.specs.Boundary.{boundaryOf}
+use Rattle.roots.specs.declared.RootAnswer.{RootAnswer}
+use Rattle.roots.specs.declared.RootAnswer.the-variants.{CubeRoot}
+use Rattle.rounding.specs.Exact.{Size}
+use Rattle.rounding.specs.Value.{unit, mag, sign, val}
+use Rattle.rounding.specs.Motion.{lasts}
+use Rattle.arrival.specs.Reply.{jerk, Within}
+use Rattle.arrival.proofs.Steps.{by-seven}
+use Rattle.step2_solver.specs.New.{newOf}
+use Rattle.step2_solver.specs.TimeAcc0Acc1Vel.{acc0Acc1VelUdduApplies, acc0Acc1VelUdduRadicand, acc0Acc1VelUdduH1, acc0Acc1VelUdduT1, acc0Acc1VelUdduTimes}
+use Rattle.position_third_step2.specs.declared.Shape.the-variants.{Acc0Acc1Vel}
+use Rattle.position_third_step2.specs.Attempt.{attemptOf}
+use Rattle.position_third_step2.specs.TimeAcc0Acc1Vel.{acc0Acc1VelUddu, timeAcc0Acc1VelOf}
+use Rattle.step2_arrives.specs.Moves.{Move, Numbers, asked, fresh, Demand3}
+use Rattle.step2_arrives.proofs.Lines.{line-arrives}
+
+abbrev seven : Float
+seven = ofBits binary64 0x401C_0000_0000_0000
+
+abbrev move : Move
+move = record { tf = seven; p0 = #0; v0 = #0; a0 = #0; pf = #8; vf = #0; af = #0; v-max = #2; v-min = neg #2; a-max = #1; a-min = neg #1; j-max = #1 }
+
+-- this shape takes no root answer
+abbrev none : RootAnswer
+none = CubeRoot #0
+
+abbrev left : Profile
+left = asked Acc0Acc1Vel none none move (fresh move) .profile
+
+-- all of it computes
+met : (asked Acc0Acc1Vel none none move (fresh move) .ok ≡ true) × Within left × Numbers move
+unfolding timeAcc0Acc1VelOf acc0Acc1VelUddu acc0Acc1VelUdduApplies acc0Acc1VelUdduRadicand acc0Acc1VelUdduH1 acc0Acc1VelUdduT1 acc0Acc1VelUdduTimes newOf attemptOf boundaryOf checkOf sumsOf sumStep run refusedOf testsOf jerksOf phaseOf nodeOf replacedOf zeroInsideOf integrateOf bandOf arrivedOf keptOf absOf sqrtOf ofBits neg add sub mul div lt le fits unit mag sign val lasts
+met = (
+  refl,
+  record {
+    start-p = record { over = lit≤ tt; under = lit≤ tt };
+    start-v = record { over = lit≤ tt; under = lit≤ tt };
+    start-a = record { over = lit≤ tt; under = lit≤ tt };
+    total = lit≤ tt;
+    jerks =
+        by-seven (λ (i : ℕ). Size (val (jerk left i)) (64 * unit)) (record { over = lit≤ tt; under = lit≤ tt }) (record { over = lit≤ tt; under = lit≤ tt }) (record { over = lit≤ tt; under = lit≤ tt }) (record { over = lit≤ tt; under = lit≤ tt })
+        (record { over = lit≤ tt; under = lit≤ tt }) (record { over = lit≤ tt; under = lit≤ tt }) (record { over = lit≤ tt; under = lit≤ tt });
+  },
+  record {
+    of-tf = (tt, tt);
+    of-p0 = (tt, tt);
+    of-v0 = (tt, tt);
+    of-a0 = (tt, tt);
+    of-pf = (tt, tt);
+    of-vf = (tt, tt);
+    of-af = (tt, tt);
+    of-v-max = (tt, tt);
+    of-v-min = (tt, tt);
+    of-a-max = (tt, tt);
+    of-a-min = (tt, tt);
+    of-j-max = (tt, tt);
+  },
+)
+
+pub move-arrives : Demand3 move left
+move-arrives = line-arrives Acc0Acc1Vel none none (met .2 .of-p0 .0) (met .2 .of-p0 .0) (met .2) (met .0) (met .1)
