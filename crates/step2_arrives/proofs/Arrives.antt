@@ -4,9 +4,10 @@ use mathlib.Core.Path.{_≡_, refl, sym, ap, _∙_, subst}
 use mathlib.Core.Bool.{true, false}
 use mathlib.Core.List.{List}
 use Prim.Native.Nat.{ℕ, _*_, _^_, _≤_, _<_}
-use native.Mathlib.Nat.{mul-comm, le-of-eq, le-trans}
+use native.Mathlib.Nat.{mul-comm, le-of-eq, le-trans, mul-le-mul-left, mul-le-mul-right, le-of-mul-le-mul-right}
 use native.Mathlib.Omega.{arith}
 use lib.Dec.{lit≤}
+use lib.Pow.{pow-pos}
 use lib.ListN.{getD}
 use lib.Ieee.{Float, nan}
 use Rattle.float.specs.Ops.{#0}
@@ -24,15 +25,14 @@ use Rattle.rounding.specs.Step.{Node, Replaced}
 use Rattle.rounding.specs.Run.{Recorded}
 use Rattle.rounding.proofs.Linear.{near-times, near-weaken}
 use Rattle.arrival.specs.Reply.{time, jerk, node, exact, Within, Residual}
-use Rattle.arrival.specs.Arrives.{Fraction, Arrives, demanded, proved}
+use Rattle.arrival.specs.Arrives.{Fraction, Arrives, proved}
 use Rattle.arrival.proofs.Yes.{Yes, check-yes}
 use Rattle.arrival.proofs.Facts.{jerk-is, yes-finite, time-above, total-is}
-use Rattle.arrival.proofs.Distances.{wider, narrower}
+use Rattle.arrival.proofs.Distances.{Narrowed, wider}
 use Rattle.arrival.proofs.CheckArrives.{check-recorded, check-arrives-closely}
 use Rattle.step2_times.specs.Facts.{Accepted, roundings, Lasts, Jerks, residual}
-use Rattle.step2_times.proofs.Facts.{lasts-within}
 use Rattle.position_third_step2.specs.Attempt.{timesOf}
-use Rattle.step2_arrives.specs.Moves.{Move, Numbers, Starts, Close, in-time, Demand3, Closely}
+use Rattle.step2_arrives.specs.Moves.{Move, Numbers, Starts, Close, in-place, in-time, Demand3, Closely}
 use Rattle.step2_arrives.proofs.Made.{Made, starts-left}
 use Rattle.step2_arrives.proofs.Sound.{AlwaysSound}
 
@@ -47,6 +47,17 @@ at-most s e k h l = omega arith
 -- an error in units, as a distance
 close : {t : ℕ → Float} {tf : Float} (l : Lasts t tf) (f : Fraction) → l .err * f .d ≤ f .m * unit → Close f (lasts t 7) tf
 close {t} {tf} l f h = near-weaken (f .d ⊙ lasts t 7) (f .d ⊙ val tf) (f .d * l .err) (f .m * unit) (near-times (f .d) (lasts t 7) (val tf) (l .err) (l .near)) (le-trans (le-of-eq (mul-comm (f .d) (l .err))) h)
+
+-- e is at most r parts in W, and those are at most m parts in d
+less : (e U W r d m : ℕ) → 0 < W → e * W ≤ r * U → r * d ≤ m * W → e * d ≤ m * U
+less e U W r d m z h k = le-of-mul-le-mul-right (joined e U W r d m (mul-le-mul-left d h) (mul-le-mul-right U k)) z
+  where
+    joined : (e U W r d m : ℕ) → d * (e * W) ≤ d * (r * U) → r * d * U ≤ m * W * U → e * d * W ≤ m * U * W
+    joined e U W r d m h k = omega arith
+
+-- what is proved is within what is demanded
+distances : Narrowed (proved residual) in-place
+distances = record { position = (lit≤ tt, lit≤ tt); velocity = (lit≤ tt, lit≤ tt); acceleration = (lit≤ tt, lit≤ tt); velocity-limit = (lit≤ tt, lit≤ tt); acceleration-limit = (lit≤ tt, lit≤ tt) }
 
 module _ {m : Move} {q : Profile} (d : Made m q) where
   -- ---- what `check` recorded and tested
@@ -126,12 +137,9 @@ module _ {m : Move} {q : Profile} (d : Made m q) where
       attempt-arrives =
           record {
             starts = made-starts;
-            arrives = wider (proved residual) demanded (m .v-max) (m .v-min) (m .a-max) (m .a-min) q (narrower residual (lit≤ tt)) closely;
-            duration = close made-lasts in-time (one (made-lasts .err * 10_000_000_000) unit (lasts-within made-lasts));
+            arrives = wider (proved residual) in-place (m .v-max) (m .v-min) (m .a-max) (m .a-min) q distances closely;
+            duration = close made-lasts in-time (less (made-lasts .err) unit (2 ^ 53) roundings (in-time .d) (in-time .m) (pow-pos 53) (made-lasts .bound) (lit≤ tt));
           }
-        where
-          one : (a b : ℕ) → a ≤ b → a ≤ 1 * b
-          one a b h = omega arith
 
 -- ---- and of whatever is made of attempts: a shape, or any other choice among them
 module _ {m : Move} (n : Numbers m) {f : Profile → Checked} (h : AlwaysSound m f) (q : Profile) (s : Starts m q) (accepted : f q .ok ≡ true) where

@@ -70,12 +70,12 @@ module _ (s : PositionThirdOrderStep2) (a-max a-min j-max : Float) where
   acc0-third-fit h0a h1 h2 = search (add-fits, sub-fits, div-fits, ofBits-fits)
 
 -- ---- the times are known: how long they last, and what the label's 0 for a[3] is off by
-finite : {x : Float} → Number x → FiniteNumber x
-finite h = record { held = h .0; finite = h .1 }
+number : {x : Float} → Number x → FiniteNumber x
+number h = record { held = h .0; finite = h .1 }
 
 module _ {m : Move} (n : Numbers m) where
   numbers : SixNumbers (m .tf) (m .a0) (m .af) (m .a-max) (m .a-min) (m .j-max)
-  numbers = record { of-tf = finite (n .of-tf); of-a0 = finite (n .of-a0); of-af = finite (n .of-af); of-a-max = finite (n .of-a-max); of-a-min = finite (n .of-a-min); of-j-max = finite (n .of-j-max) }
+  numbers = record { of-tf = number (n .of-tf); of-a0 = number (n .of-a0); of-af = number (n .of-af); of-a-max = number (n .of-a-max); of-a-min = number (n .of-a-min); of-j-max = number (n .of-j-max) }
 
   -- `time_acc0_acc1_vel`
   pub acc0-acc1-vel-uddu-timed : {limits : ReachedLimits} (h1 t1 : Float) → Fit t1 → Timed limits (m .tf) (m .a0) (m .j-max) (acc0Acc1VelUdduTimes (solver m) (m .a-max) (m .a-min) (m .j-max) h1 t1)

@@ -19,6 +19,10 @@ unfolding boundaryOf
 fresh-starts {m} n =
     let none = ofBits-fits binary64 0 in
     record {
+      start = refl;
+      pf-is = refl;
+      vf-is = refl;
+      af-is = refl;
       held =
           record {
             eight-a = refl;
@@ -32,10 +36,6 @@ fresh-starts {m} n =
             held-vf = n .of-vf .0;
             held-af = n .of-af .0;
           };
-      start = refl;
-      pf-is = refl;
-      vf-is = refl;
-      af-is = refl;
     }
 
 -- demand 3, of what a shape leaves in the profile of a line

@@ -1,6 +1,6 @@
 -- The yes of one attempt, and what is known of it: the times that it tried, what `check` was handed and what it left. Assumes nothing.
 -- An attempt is known by seven times that fit binary64 and last tf, and whose acceleration after phase 2 is near 0 where the label replaces it (`Timed`). That is all that a move's arrival needs of a formula.
-use mathlib.Core.Path.{_≡_, _∙_, subst}
+use mathlib.Core.Path.{_≡_, sym, _∙_, subst}
 use mathlib.Core.Bool.{true, false}
 use Prim.Native.Nat.{ℕ}
 use lib.Dec.{T}
@@ -19,7 +19,7 @@ use Rattle.arrival.proofs.Yes.{Carried, held-left}
 use Rattle.step2_solver.specs.declared.Times.{Times}
 use Rattle.step2_times.specs.Facts.{Accepted, Lasts, Jerks, residual, Replaces}
 use Rattle.position_third_step2.specs.Attempt.{timesOf}
-use Rattle.step2_arrives.specs.Moves.{Move, Starts}
+use Rattle.step2_arrives.specs.Moves.{Move, StartOf, Starts}
 
 pub record TimesFit (x : Times) : Type 0 where
   pub t0 : T (fits binary64 (x .t0))
@@ -87,4 +87,4 @@ module _ {m : Move} where
       }
 
   pub starts-left : {q q' : Profile} → Carried q q' → Starts m q → Starts m q'
-  starts-left c s = record { held = held-left c (s .held); start = c .nodes .start ∙ s .start; pf-is = c .pf-is ∙ s .pf-is; vf-is = c .vf-is ∙ s .vf-is; af-is = c .af-is ∙ s .af-is }
+  starts-left c s = record { held = held-left c (s .held); start = subst (StartOf m) (sym (c .nodes .start)) (s .start); pf-is = c .pf-is ∙ s .pf-is; vf-is = c .vf-is ∙ s .vf-is; af-is = c .af-is ∙ s .af-is }

@@ -8,6 +8,7 @@ use Rattle.profile.specs.Boundary.{defaultOf, boundaryOf}
 use Rattle.rounding.specs.Exact.{D, Near, _⊙_}
 use Rattle.rounding.specs.Value.{unit, val}
 use Rattle.rounding.specs.Motion.{lasts}
+use Rattle.rounding.specs.Step.{Node}
 use Rattle.arrival.specs.Reply.{time, node, Held, Number}
 use Rattle.arrival.specs.Arrives.{Fraction, _over_, Distances, Arrives, demanded, proved}
 use Rattle.roots.specs.declared.RootAnswer.{RootAnswer}
@@ -54,10 +55,14 @@ solver m = newOf (m .tf) (m .p0) (m .v0) (m .a0) (m .pf) (m .vf) (m .af) (m .j-m
 abbrev pub asked : Shape → RootAnswer → RootAnswer → Move → Profile → Checked
 asked shape first second m q = shapeOf shape (solver m) first second (m .v-max) (m .v-min) (m .a-max) (m .a-min) (m .j-max) q
 
--- The profile q starts where the solver starts, and its goal is the goal of the solver.
+-- the node n is the start of the move m
+abbrev pub StartOf : Move → Node → Type 0
+StartOf m n = n ≡ record { a = m .a0; v = m .v0; p = m .p0 }
+
+-- The profile q has the start and the goal that the solver was given.
 pub record Starts (m : Move) (q : Profile) : Type 0 where
   pub held : Held q
-  pub start : node q 0 ≡ record { a = m .a0; v = m .v0; p = m .p0 }
+  pub start : StartOf m (node q 0)
   pub pf-is : q .pf ≡ m .pf
   pub vf-is : q .vf ≡ m .vf
   pub af-is : q .af ≡ m .af
@@ -77,11 +82,14 @@ pub record Arrival (w : Distances) (s : Fraction) (m : Move) (q : Profile) : Typ
   pub duration : Close s (lasts (time q) 7) (m .tf)
 
 -- demand 3: the demanded distances, and 1e-10 seconds
+abbrev pub in-place : Distances
+in-place = demanded
+
 abbrev pub in-time : Fraction
 in-time = 1 over 10_000_000_000
 
 abbrev pub Demand3 : Move → Profile → Type 0
-Demand3 m q = Arrival demanded in-time m q
+Demand3 m q = Arrival in-place in-time m q
 
 -- What is proved: `check`'s own tolerances and the rounding errors. That is 1.04e-8 of the position, 1.003e-8 of the velocity, 1.02e-10 of the acceleration,
 -- 2.9e-11 of the velocity limits and 2.8e-12 of the acceleration limits; and 1.2e-13 seconds.
