@@ -38,11 +38,13 @@ impl Lists {
     }
 }
 
-/// Digits as in a line, every NaN the same.
+/// Digits as in a line, every NaN the same. The bits are tested and not the number:
+/// behind a `sqrt`, rustc 1.95 (LLVM 22.1.2) takes a choice by `is_nan` for the number
+/// itself and leaves the NaN's own bits.
 pub fn written(number: f64) -> String {
-    let bits =
-        if number.is_nan() { f64::NAN.to_bits() & 0x7FFF_FFFF_FFFF_FFFF } else { number.to_bits() };
-    format!("{bits:016X}")
+    let bits = number.to_bits();
+    let is_nan = bits & 0x7FFF_FFFF_FFFF_FFFF > f64::INFINITY.to_bits();
+    format!("{:016X}", if is_nan { 0x7FF8_0000_0000_0000 } else { bits })
 }
 
 /// Digits of the very bits.

@@ -46,10 +46,14 @@ pub fn write_byte(byte: u8, places: &mut [u8; 2]) {
     *places = PAIRS[byte as usize];
 }
 
-/// The bits, highest byte first; every NaN as 7FF8000000000000.
+/// The bits, highest byte first; every NaN as 7FF8000000000000. The bits are tested and
+/// not the number, since rustc 1.95 has been seen to drop a choice by `is_nan`
+/// (`written` in lists/main.rs).
 #[inline]
 pub fn write_number(number: f64, places: &mut [u8; 16]) {
-    let bits = if number.is_nan() { 0x7FF8_0000_0000_0000 } else { number.to_bits() };
+    let bits = number.to_bits();
+    let is_nan = bits & 0x7FFF_FFFF_FFFF_FFFF > f64::INFINITY.to_bits();
+    let bits = if is_nan { 0x7FF8_0000_0000_0000 } else { bits };
     for (byte, pair) in bits.to_be_bytes().into_iter().zip(places.chunks_exact_mut(2)) {
         pair.copy_from_slice(&PAIRS[byte as usize]);
     }

@@ -9,5 +9,4 @@ pub mod Bounds
 pub mod Limits
 pub mod Phase
 pub mod Run
-pub mod Arrival
 pub mod Worked

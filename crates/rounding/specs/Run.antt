@@ -48,16 +48,3 @@ pub record Run (r : ℕ) (t j : ℕ → Float) (n : ℕ → Node) : Type 0 where
   pub last-a : Finite (n 7 .a)
   pub last-v : Finite (n 7 .v)
   pub last-p : Finite (n 7 .p)
-
--- The exact state m is within 2e-8 of the position pf and the velocity vf, and within 2e-10 of the acceleration af.
--- In the units of m the number 1 is `perP * unit` for a position, `perV * unit` for a velocity and `perA * unit` for an acceleration; 2e-8 is one part in 50,000,000.
-pub record Arrived (m : Moving) (pf vf af : Float) : Type 0 where
-  pub p-off : ℕ
-  pub p-near : Near (m .p) (perP ⊙ val pf) p-off
-  pub p-small : p-off * 50_000_000 ≤ perP * unit
-  pub v-off : ℕ
-  pub v-near : Near (m .v) (perV ⊙ val vf) v-off
-  pub v-small : v-off * 50_000_000 ≤ perV * unit
-  pub a-off : ℕ
-  pub a-near : Near (m .a) (perA ⊙ val af) a-off
-  pub a-small : a-off * 5_000_000_000 ≤ perA * unit

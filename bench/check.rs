@@ -1,0 +1,228 @@
+//! `check` on kind 00 cases: the proved one through the static library, in place and
+//! by value, beside the Rust's. Lines come on standard input and are decoded before
+//! any time is taken; every record is compared first, bit for bit, all NaNs as one.
+
+mod timing;
+
+use oracle::check::{LABELS, SIGNS};
+use oracle::{digits, frame};
+use rsruckig::profile::Profile;
+use std::hint::black_box;
+use std::io::{stdin, BufRead};
+
+extern "C" {
+    fn bench_check_in_place(
+        t: &[f64; 7],
+        t_sum: &mut [f64; 7],
+        j: &mut [f64; 7],
+        a: &mut [f64; 8],
+        v: &mut [f64; 8],
+        p: &mut [f64; 8],
+        pf: f64,
+        vf: f64,
+        af: f64,
+        signs: u8,
+        label: u8,
+        set_limits: bool,
+        jf: f64,
+        v_max: f64,
+        v_min: f64,
+        a_max: f64,
+        a_min: f64,
+    ) -> u32;
+
+    fn bench_check_by_value(
+        t: &[f64; 7],
+        t_sum: &mut [f64; 7],
+        j: &mut [f64; 7],
+        a: &mut [f64; 8],
+        v: &mut [f64; 8],
+        p: &mut [f64; 8],
+        pf: f64,
+        vf: f64,
+        af: f64,
+        signs: u8,
+        label: u8,
+        set_limits: bool,
+        jf: f64,
+        v_max: f64,
+        v_min: f64,
+        a_max: f64,
+        a_min: f64,
+    ) -> u32;
+}
+
+/// Each turn goes through all cases once.
+const TURNS: usize = 2001;
+
+const NAMES: [&str; 3] =
+    ["Rust, &mut Profile", "static library, in place", "static library, by value"];
+
+/// What `check` is asked, beside the record.
+#[derive(Clone)]
+struct Asked {
+    signs: u8,
+    label: u8,
+    set_limits: bool,
+    jf: f64,
+    v_max: f64,
+    v_min: f64,
+    a_max: f64,
+    a_min: f64,
+}
+
+/// A record as the exported functions take it.
+#[derive(Clone)]
+struct Record {
+    t: [f64; 7],
+    t_sum: [f64; 7],
+    j: [f64; 7],
+    a: [f64; 8],
+    v: [f64; 8],
+    p: [f64; 8],
+    pf: f64,
+    vf: f64,
+    af: f64,
+}
+
+/// The Rust keeps its own record, and the library's two ways another one.
+struct Case {
+    asked: Asked,
+    profile: Profile,
+    record: Record,
+}
+
+fn read(line: &[u8]) -> Case {
+    let mut bytes = [0; frame::LONGEST];
+    assert!(line.len() == 2 * frame::LONGEST && digits::read(line, &mut bytes), "no kind 00 line");
+    let [kind, signs, label, set_limits, ..] = bytes;
+    assert_eq!(kind, frame::CHECK);
+    let [p0, v0, a0, pf, vf, af, jf, v_max, v_min, a_max, a_min] =
+        frame::numbers(&bytes, frame::CHECK_NUMBERS);
+    let mut profile = Profile::default();
+    profile.set_boundary(p0, v0, a0, pf, vf, af);
+    profile.t = frame::numbers(&bytes, frame::CHECK_TIMES);
+    let record = Record {
+        t: profile.t,
+        t_sum: profile.t_sum,
+        j: profile.j,
+        a: profile.a,
+        v: profile.v,
+        p: profile.p,
+        pf,
+        vf,
+        af,
+    };
+    let set_limits = set_limits == 1;
+    let asked = Asked { signs, label, set_limits, jf, v_max, v_min, a_max, a_min };
+    Case { asked, profile, record }
+}
+
+#[inline(always)]
+fn by_rust(q: &Asked, profile: &mut Profile) -> bool {
+    profile.check(
+        SIGNS[q.signs as usize],
+        LABELS[q.label as usize],
+        q.set_limits,
+        q.jf,
+        q.v_max,
+        q.v_min,
+        q.a_max,
+        q.a_min,
+    )
+}
+
+macro_rules! by_library {
+    ($name:ident, $check:ident) => {
+        #[inline(always)]
+        fn $name(q: &Asked, r: &mut Record) -> u32 {
+            unsafe {
+                $check(
+                    &r.t,
+                    &mut r.t_sum,
+                    &mut r.j,
+                    &mut r.a,
+                    &mut r.v,
+                    &mut r.p,
+                    r.pf,
+                    r.vf,
+                    r.af,
+                    q.signs,
+                    q.label,
+                    q.set_limits,
+                    q.jf,
+                    q.v_max,
+                    q.v_min,
+                    q.a_max,
+                    q.a_min,
+                )
+            }
+        }
+    };
+}
+by_library!(in_place, bench_check_in_place);
+by_library!(by_value, bench_check_by_value);
+
+/// Verdict, direction, signs and label in one number, as the library answers them.
+fn number(yes: bool, profile: &Profile) -> u32 {
+    yes as u32
+        + 2 * profile.direction as u32
+        + 4 * profile.control_signs as u32
+        + 8 * profile.limits as u32
+}
+
+fn same(ours: &[f64], theirs: &[f64]) -> bool {
+    ours.iter().zip(theirs).all(|(x, y)| x.to_bits() == y.to_bits() || x.is_nan() && y.is_nan())
+}
+
+/// Whether the move is accepted; both of the library's ways must leave what the Rust leaves.
+fn verdict(case: &Case) -> bool {
+    let mut profile = case.profile.clone();
+    let yes = by_rust(&case.asked, &mut profile);
+    for check in [in_place, by_value] {
+        let mut record = case.record.clone();
+        assert_eq!(check(&case.asked, &mut record), number(yes, &profile));
+        assert!(
+            same(&record.t_sum, &profile.t_sum)
+                && same(&record.j, &profile.j)
+                && same(&record.a, &profile.a)
+                && same(&record.v, &profile.v)
+                && same(&record.p, &profile.p)
+        );
+    }
+    yes
+}
+
+fn measure(title: &str, cases: &mut [Case]) {
+    // A second `check` of a record finds the same start and times, so it does the same again.
+    let times = timing::medians(NAMES.len(), TURNS, cases.len(), |way, _| {
+        for case in black_box(&mut *cases) {
+            match way {
+                0 => drop(black_box(by_rust(&case.asked, &mut case.profile))),
+                1 => drop(black_box(in_place(&case.asked, &mut case.record))),
+                _ => drop(black_box(by_value(&case.asked, &mut case.record))),
+            }
+        }
+    });
+    timing::print(
+        &format!("{title}, {} cases {TURNS} times: time a call, and beside the first", cases.len()),
+        &NAMES,
+        &times,
+        0,
+    );
+}
+
+fn main() {
+    let (mut yes, mut no) = (Vec::new(), Vec::new());
+    for line in stdin().lock().lines() {
+        let case = read(line.expect("standard input").as_bytes());
+        if verdict(&case) {
+            yes.push(case)
+        } else {
+            no.push(case)
+        }
+    }
+    println!("{} records equal the Rust's", yes.len() + no.len());
+    measure("accepted moves", &mut yes);
+    measure("refused moves", &mut no);
+}

@@ -1,0 +1,85 @@
+// `check` by value for the benchmarks in bench/: the record is made of lent arrays, and what comes back is stored there.
+// It has a library of its own: beside another caller of `check` in place, that function is called and not inlined.
+use bench_labels::answer_number;
+use bench_labels::limits_at;
+use bench_labels::signs_at;
+use profile::ControlSigns;
+use profile::Direction;
+use profile::Profile;
+use profile::ReachedLimits;
+use profile::in_place::Answer;
+use profile::in_place::Labels;
+ghost use mathlib.Core.Path.{_≡_};
+ghost use Rattle.bench_labels.specs.Lent.{checkLentOf};
+
+#[no_mangle]
+pub extern "C" fn bench_check_by_value(
+    t: &[f64; 7],
+    t_sum: &mut [f64; 7],
+    j: &mut [f64; 7],
+    a: &mut [f64; 8],
+    v: &mut [f64; 8],
+    p: &mut [f64; 8],
+    pf: f64,
+    vf: f64,
+    af: f64,
+    signs: u8,
+    label: u8,
+    set_limits: bool,
+    jf: f64,
+    v_max: f64,
+    v_min: f64,
+    a_max: f64,
+    a_min: f64,
+) -> u32
+    ensures { λ r. ⌜ record { number = r; t-sum = now («t_sum» .exit); j = now (j .exit); nodes = record { a = now (a .exit); v = now (v .exit); p = now (p .exit) } }
+        ≡ checkLentOf (now (t .entry)) (now («t_sum» .entry)) (now (j .entry)) (record { a = now (a .entry); v = now (v .entry); p = now (p .entry) })
+        (record { pf = pf; vf = vf; af = af }) signs label «set_limits» jf «v_max» «v_min» «a_max» «a_min» ⌝ }
+{
+    let profile = Profile {
+        t: *t,
+        t_sum: *t_sum,
+        j: *j,
+        a: *a,
+        v: *v,
+        p: *p,
+        pf,
+        vf,
+        af,
+        limits: ReachedLimits::None,
+        direction: Direction::UP,
+        control_signs: ControlSigns::UDDU,
+    };
+    let checked = profile.check(
+        signs_at(signs),
+        limits_at(label),
+        set_limits,
+        jf,
+        v_max,
+        v_min,
+        a_max,
+        a_min,
+    );
+    let next = checked.profile;
+    let next_t_sum = next.t_sum;
+    let next_j = next.j;
+    let next_a = next.a;
+    let next_v = next.v;
+    let next_p = next.p;
+    *t_sum = next_t_sum;
+    *j = next_j;
+    *a = next_a;
+    *v = next_v;
+    *p = next_p;
+    let limits = next.limits;
+    let direction = next.direction;
+    let control_signs = next.control_signs;
+    answer_number(Answer {
+        ok: checked.ok,
+        labels: Labels {
+            limits,
+            direction,
+            control_signs,
+        },
+    })
+}

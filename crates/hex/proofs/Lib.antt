@@ -1,0 +1,4 @@
+pub mod Digits
+pub mod Lanes
+pub mod Turns
+pub mod Laws
