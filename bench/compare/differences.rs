@@ -1,0 +1,123 @@
+//! The same lines, and the same lent places, to both sides.
+
+use crate::port;
+use cases::line::Line;
+use cases::random::Random;
+use cases::{broken_line, check_line, shape_line};
+use std::time::{Duration, Instant};
+
+const BATCH: u64 = 1_000_000;
+const SHOWN: u64 = 10;
+
+/// More than the longest reply, so that places past it are compared too.
+const MOST: usize = 760;
+
+pub fn count(seed: u64, millions: u64, kinds: &[u8]) -> u64 {
+    let mut differences = 0;
+    let start = Instant::now();
+    let mut counts = [0u64; 9];
+    for seed in seed..seed + millions {
+        let mut sides = [Duration::ZERO; 2];
+        let found = batch(seed, kinds, &mut differences, &mut counts, &mut sides);
+        println!(
+            "seed {seed}: {BATCH} lines, {found} differences, Rust {:.2} s, port {:.2} s",
+            sides[0].as_secs_f64(),
+            sides[1].as_secs_f64()
+        );
+    }
+    println!("answers 0 to 8: {counts:?}");
+    println!(
+        "{} lines in all, {differences} differences, {:.1} s",
+        millions * BATCH,
+        start.elapsed().as_secs_f64()
+    );
+    differences
+}
+
+fn batch(
+    seed: u64,
+    kinds: &[u8],
+    differences: &mut u64,
+    counts: &mut [u64; 9],
+    sides: &mut [Duration; 2],
+) -> u64 {
+    // Lines are made a few thousand at a time, so that making them is not timed.
+    const PART: u64 = 4_000;
+    let mut random = Random::new(seed);
+    let mut lines: Vec<(Line, usize, u8)> = vec![(Line::default(), 0, 0); PART as usize];
+    let mut rust = vec![[0; MOST]; PART as usize];
+    let mut port = rust.clone();
+    let mut numbers = vec![[0; 2]; PART as usize];
+    let before = *differences;
+    for part in 0..BATCH / PART {
+        for (line, places, mark) in &mut lines {
+            any_line(&mut random, kinds, line);
+            *places = any_places(&mut random);
+            *mark = random.bits() as u8;
+        }
+        for (index, (_, _, mark)) in lines.iter().enumerate() {
+            rust[index].fill(*mark);
+            port[index].fill(*mark);
+        }
+        let start = Instant::now();
+        for (index, (line, places, _)) in lines.iter().enumerate() {
+            numbers[index][0] = plain::answer_line(&line.characters, &mut rust[index][..*places]);
+        }
+        sides[0] += start.elapsed();
+        let start = Instant::now();
+        for (index, (line, places, _)) in lines.iter().enumerate() {
+            numbers[index][1] = port::answer_line(&line.characters, &mut port[index][..*places]);
+        }
+        sides[1] += start.elapsed();
+        for (index, (line, places, _)) in lines.iter().enumerate() {
+            let [wanted, got] = numbers[index];
+            counts[wanted as usize] += 1;
+            if wanted == got && rust[index] == port[index] {
+                continue;
+            }
+            *differences += 1;
+            if *differences <= SHOWN {
+                println!(
+                    "seed {seed}, line {}, {places} places: Rust {wanted}, port {got}{}",
+                    part * PART + index as u64,
+                    first(&rust[index], &port[index])
+                );
+                println!("{}", String::from_utf8_lossy(&line.characters));
+            }
+        }
+    }
+    *differences - before
+}
+
+fn first(rust: &[u8], port: &[u8]) -> String {
+    match rust.iter().zip(port).position(|(a, b)| a != b) {
+        Some(place) => format!(", place {place} {} and {}", rust[place], port[place]),
+        None => String::new(),
+    }
+}
+
+/// Mostly 728, and now and then any number of places, so that question 8 is asked.
+fn any_places(random: &mut Random) -> usize {
+    match random.below(8) {
+        0 => random.below(MOST as u64 + 1) as usize,
+        1 => 226 + random.below(4) as usize,
+        2 => 726 + random.below(4) as usize,
+        _ => 728,
+    }
+}
+
+pub fn any_line(random: &mut Random, kinds: &[u8], line: &mut Line) {
+    let kind = random.pick(kinds);
+    accepted_line(random, kind, line);
+    if random.once_in(8) {
+        broken_line::spoil(random, kind, line);
+    }
+}
+
+pub fn accepted_line(random: &mut Random, kind: u8, line: &mut Line) {
+    if kind == 0 {
+        check_line::write(random, line);
+    } else {
+        shape_line::write(random, kind, line);
+    }
+}

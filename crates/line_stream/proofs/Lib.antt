@@ -1,0 +1,9 @@
+pub mod Copies
+pub mod Feeds
+pub mod Answers
+pub mod Keeping
+pub mod Streaming
+pub mod FirstQuestion
+pub mod Ends
+pub mod Whole
+pub mod Bounds

@@ -1,0 +1,58 @@
+-- `find` passes the characters before the first line feed. The invariant: what is left to pass from here is the whole from the start. Assumes nothing.
+use mathlib.Core.Path.{_≡_, refl, sym, _∙_}
+use Prim.Native.Nat.{_+_, _-_}
+use native.Mathlib.Omega.{arith}
+use lib.ListN.{length, drop}
+use Rattle.line_stream.specs.Stream.{lineLength}
+use Rattle.line_stream.proofs.Feeds.{at-feed, past, past-eight, at-end}
+use Rattle.line_stream.proofs.line_feed.find.Statement.{statement}
+use Rattle.line_stream.proofs.line_feed.find.Tie as tie
+
+abbrev Inv-loop : tie.InvT-loop
+Inv-loop input from i₀ i = i + lineLength (drop i input) ≡ from + lineLength (drop from input)
+
+abbrev μ-loop : tie.MeasureT-loop
+μ-loop input from i₀ i = length input - i
+
+no-feed-requires : tie.Need-no-feed-requires Inv-loop μ-loop
+no-feed-requires c κs = omega arith
+
+loop-again : tie.Need-loop-again Inv-loop μ-loop
+loop-again c =
+    let f = c .before in
+    let l = f .before .before .before in
+    past-eight (l .before .before .args .input .now) (l .loop .i) (omega arith) (sym (f .no-feed .ensures) ∙ c .if2 .taken) ∙ l .loop .inv
+
+returns : tie.Need-returns Inv-loop μ-loop
+returns c =
+    let l = c .before .before .before .before in
+    at-feed (l .before .before .args .input .now) (l .loop .i) (omega arith) (c .if3 .taken) ∙ l .loop .inv
+
+loop-again-2 : tie.Need-loop-again-2 Inv-loop μ-loop
+loop-again-2 c =
+    let l = c .before .before .before .before in
+    past (l .before .before .args .input .now) (l .loop .i) (omega arith) (c .if3 .left) ∙ l .loop .inv
+
+returns-2 : tie.Need-returns-2 Inv-loop μ-loop
+returns-2 c =
+    let l = c .before in
+    at-end (l .before .before .args .input .now) (l .loop .i) (omega arith) ∙ l .loop .inv
+
+pub find-spec : {M : Type 1} → statement M
+find-spec =
+    tie.close
+    (tie.spec
+    Inv-loop
+    μ-loop
+    (λ c. refl)
+    (λ c. omega arith)
+    no-feed-requires
+    (λ c. omega arith)
+    (λ c. omega arith)
+    loop-again
+    (λ c. omega arith)
+    returns
+    (λ c. omega arith)
+    (λ c. omega arith)
+    loop-again-2
+    returns-2)

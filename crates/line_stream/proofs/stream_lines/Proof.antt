@@ -1,0 +1,118 @@
+-- `stream_lines` is `streamOf`. The invariant is `Going`; the measure is what is left of the input, and one more. Assumes nothing.
+use mathlib.Core.Path.{_≡_, sym, _∙_}
+use Prim.Native.Nat.{ℕ, _≤_, _<_, _+_, _-_, _^_}
+use native.Mathlib.Omega.{arith}
+use lib.ListN.{length, take}
+use borrow.Author.Needs.{needs}
+use Rattle.line_stream.proofs.Keeping.{held}
+use Rattle.line_stream.proofs.Streaming.{Going, begins, out-of-room, out-of-input, end-within, turns}
+use Rattle.line_stream.proofs.stream_lines.Statement.{statement}
+use Rattle.line_stream.proofs.stream_lines.Tie as tie
+
+abbrev Inv-loop : tie.InvT-loop
+Inv-loop input kept₀ count out₀ count₀ at₀ filled₀ kept out count' at filled = Going input (take count kept₀) out₀ kept out count' at filled
+
+abbrev μ-loop : tie.MeasureT-loop
+μ-loop input kept₀ count out₀ count₀ at₀ filled₀ kept out count' at filled = length input + 1 - at
+
+loop-holds : tie.Need-loop-holds Inv-loop μ-loop
+loop-holds c =
+    let s = c .before .before .before .before in
+    begins (s .args .input .now) (s .args .kept .now) (s .args .out .now) (s .args .count) (c .least .result) (s .pre) (c .least .ensures)
+    (held (s .args .kept .now) (s .args .count) (c .least .result) (s .pre) (c .least .ensures))
+
+sub-keep : tie.Need-sub-keep Inv-loop μ-loop
+sub-keep c = c .before .before .before .before .loop .inv .within
+
+keep-requires : tie.Need-keep-requires Inv-loop μ-loop
+keep-requires c κs = let g = c .before .before .before .before .before .loop .inv in (g .few, g .whole)
+
+same-length : tie.Need-same-length Inv-loop μ-loop
+same-length c =
+    let k = c .before .before in
+    let w : length (k .keep .last .0) ≡ 297 = search needs in
+    w ∙ sym (k .before .before .before .before .before .before .before .before .before .before .before .pre)
+
+returns : tie.Need-returns Inv-loop μ-loop
+returns c =
+    let k = c .before .before in
+    let i = k .before .before .before in
+    let f = i .before in
+    let w : length (k .keep .last .0) ≡ 297 = search needs in
+    out-of-input (f .before .before .loop .inv) (f .before .loop-test .taken) (f .find .result) (f .find .ensures) (i .if1 .taken) (k .keep .result) (k .keep .last .0) w (k .keep .ensures)
+
+sub-end-line : tie.Need-sub-end-line Inv-loop μ-loop
+sub-end-line c = let e = c .before .find .ensures in omega arith
+
+part-end-line-end : tie.Need-part-end-line-end Inv-loop μ-loop
+part-end-line-end c =
+    let f = c .before in
+    end-within (f .before .before .loop .inv) (f .before .loop-test .taken) (f .find .result) (f .find .ensures)
+
+end-line-requires : tie.Need-end-line-requires Inv-loop μ-loop
+end-line-requires c κs =
+    let t = c .before .before .before .before .before in
+    let g = t .before .loop .inv in
+    ((g .few, g .whole), enough _ _ (g .room) (t .loop-test .taken))
+  where
+    enough : (filled out : ℕ) → filled ≤ out → 729 ≤ out - filled → filled + 729 ≤ out
+    enough filled out w h = omega arith
+
+add-at : tie.Need-add-at Inv-loop μ-loop
+add-at c =
+    let i = c .before .before .before .before .before .before .before .before in
+    let s = i .before .before .before .before .before .before .before .before in
+    record { fits = next _ _ (part-end-line-end i) (s .good .0 .0) (i .if1 .left) }
+  where
+    next : (end input : ℕ) → end ≤ input → input < 2 ^ 64 → (end ≡ input → ⊥) → end + 1 < 2 ^ 64
+    next end input w g n = omega (arith, n)
+
+loop-less : tie.Need-loop-less Inv-loop μ-loop
+loop-less c =
+    let i = c .before .before .before .before .before .before .before .before in
+    less _ _ _ (sub-end-line i) (part-end-line-end i)
+  where
+    less : (at end input : ℕ) → at ≤ end → end ≤ input → input + 1 - (end + 1) < input + 1 - at
+    less at end input w v = omega arith
+
+loop-again : tie.Need-loop-again Inv-loop μ-loop
+loop-again c =
+    let e = c .before .before .before .before in
+    let i = e .before .before .before .before in
+    let f = i .before in
+    let w : length (e .end-line .last .1 .0) ≡ 297 = search needs in
+    turns (f .before .before .loop .inv) (f .before .loop-test .taken) (f .find .result) (f .find .ensures) (i .if1 .left) _ _ (e .end-line .result) w (e .end-line .ensures)
+
+same-length-3 : tie.Need-same-length-3 Inv-loop μ-loop
+same-length-3 c = c .before .loop .inv .whole ∙ sym (c .before .before .before .before .before .before .pre)
+
+returns-2 : tie.Need-returns-2 Inv-loop μ-loop
+returns-2 c = out-of-room (c .before .loop .inv) (c .loop-test .left)
+
+pub stream-lines-spec : {M : Type 1} → statement M
+stream-lines-spec =
+    tie.close
+    (tie.spec
+    Inv-loop
+    μ-loop
+    (λ c κs. search needs)
+    loop-holds
+    (λ c. c .loop .inv .room)
+    (λ c κs. search needs)
+    sub-keep
+    sub-keep
+    (λ c. omega arith)
+    keep-requires
+    same-length
+    (λ c. c .before .before .before .before .before .before .before .before .loop .inv .same)
+    returns
+    sub-end-line
+    sub-end-line
+    part-end-line-end
+    end-line-requires
+    add-at
+    loop-less
+    loop-again
+    same-length-3
+    (λ c. c .before .loop .inv .same)
+    returns-2)

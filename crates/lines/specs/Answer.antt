@@ -1,0 +1,28 @@
+-- What the line entry answers: a number, and what the lent places hold after it. Definitions only.
+use mathlib.Core.Bool.{cond}
+use mathlib.Core.List.{List}
+use Prim.Native.Nat.{ℕ}
+use lib.Dec.{eqb}
+use lib.ListN.{length}
+use Rattle.hex.specs.Hex.{bytesOf, hexOf, fill}
+use Rattle.lines.specs.Frame.{Frame, byteAt}
+use Rattle.lines.specs.CheckLine.{checkLineOf}
+use Rattle.lines.specs.Reply.{replyBytesOf}
+use Rattle.lines.specs.Questions.{firstNo, questions}
+
+pub record Answer : Type 0 where
+  pub number : ℕ
+  pub places : List ℕ
+
+-- the reply's bytes, by the frame's kind
+unfoldable pub replyOf : Frame → List ℕ
+replyOf at = replyBytesOf (checkLineOf at)
+
+-- 0, with the reply's characters in the first lent places; or the number of the first question with a no, and the places as they came
+unfoldable pub answerOf : List ℕ → List ℕ → Answer
+answerOf line lent =
+    let number = firstNo (questions line (length lent)) in
+    record {
+      number = number;
+      places = cond (eqb number 0) (fill (hexOf (replyOf (byteAt (bytesOf line)))) lent) lent;
+    }

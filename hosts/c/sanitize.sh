@@ -1,0 +1,26 @@
+#!/bin/sh
+# Calls the entry with all lent sizes around 0, 228 and 728, under the address and
+# undefined-behaviour sanitizers and, where it is installed, under valgrind.
+#
+#   hosts/c/sanitize.sh [LINES]
+#
+# LINES is samples/moves.txt if not given. LIBRARY names another archive than
+# target/staticlib/liblines.a. The sanitizers watch the host's side and the memory
+# that it lends; valgrind watches the library's own code as well.
+set -eu
+
+here=$(cd "$(dirname "$0")" && pwd)
+root=$(dirname "$(dirname "$here")")
+library=${LIBRARY:-$root/target/staticlib/liblines.a}
+out=$root/target/hosts
+lines=${1:-$root/samples/moves.txt}
+
+[ -f "$library" ] || (cd "$root" && rt staticlib lines)
+mkdir -p "$out"
+cc -std=gnu11 -O1 -g -Wall -Wextra -fsanitize=address,undefined -fno-sanitize-recover=all \
+    -I "$root/include" "$here/sizes.c" "$library" -o "$out/sizes_sanitized"
+"$out/sizes_sanitized" < "$lines"
+if command -v valgrind > /dev/null; then
+    cc -std=gnu11 -O1 -g -I "$root/include" "$here/sizes.c" "$library" -o "$out/sizes"
+    valgrind --quiet --error-exitcode=1 "$out/sizes" < "$lines"
+fi
