@@ -3,9 +3,9 @@ use mathlib.Core.Path.{_≡_, refl}
 use mathlib.Core.Bool.{true, false}
 use Prim.Native.Nat.{ℕ, _≤_, _<_}
 use borrow.Author.Tests.{eq-eqb, ne-eqb, le-leb, lt-leb}
-use Rattle.lines.specs.Frame.{Frame}
+use Rattle.line_frame.specs.Frame.{Frame}
 use Rattle.lines.specs.Kinds.{frameBytes, replyPlaces}
-use Rattle.lines.specs.Questions.{bytesFit, numbersFit, firstNo, frameQuestions}
+use Rattle.lines.specs.Questions.{bytesFit, numbersFit, countsFit, firstNo, frameQuestions}
 
 module _ (at : Frame) (n p : ℕ) (w : ℕ) (ew : w ≡ frameBytes (at 0)) where
   abbrev number : ℕ
@@ -26,9 +26,13 @@ module _ (at : Frame) (n p : ℕ) (w : ℕ) (ew : w ≡ frameBytes (at 0)) where
         pub sixth : numbersFit at ≡ false → 6 ≡ number
         sixth h = rw (← ew, ne-eqb w 0 h3, eq-eqb n w h4, h5, h)
 
-        module _ (h6 : numbersFit at ≡ true) (r : ℕ) (er : r ≡ replyPlaces (at 0)) where
-          pub eighth : p < r → 8 ≡ number
-          eighth h = rw (← ew, ne-eqb w 0 h3, eq-eqb n w h4, h5, h6, ← er, lt-leb r p h)
+        module _ (h6 : numbersFit at ≡ true) where
+          pub seventh : countsFit at ≡ false → 7 ≡ number
+          seventh h = rw (← ew, ne-eqb w 0 h3, eq-eqb n w h4, h5, h6, h)
 
-          pub none : r ≤ p → 0 ≡ number
-          none h = rw (← ew, ne-eqb w 0 h3, eq-eqb n w h4, h5, h6, ← er, le-leb r p h)
+          module _ (h7 : countsFit at ≡ true) (r : ℕ) (er : r ≡ replyPlaces (at 0)) where
+            pub eighth : p < r → 8 ≡ number
+            eighth h = rw (← ew, ne-eqb w 0 h3, eq-eqb n w h4, h5, h6, h7, ← er, lt-leb r p h)
+
+            pub none : r ≤ p → 0 ≡ number
+            none h = rw (← ew, ne-eqb w 0 h3, eq-eqb n w h4, h5, h6, h7, ← er, le-leb r p h)

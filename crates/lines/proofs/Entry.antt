@@ -9,8 +9,8 @@ use lib.ListN.{length, getD, drop, replicate, length-replicate}
 use lib.Seq.{getD-drop}
 use borrow.Author.Tests.{eq-eqb, ne-eqb, le-ltb, eqb-true, leb-true}
 use Rattle.hex.specs.Hex.{Filled, allDigits, bytesOf, hexOf, fill, padded, decodeOf}
-use Rattle.lines.specs.Frame.{Frame, byteAt}
-use Rattle.lines.specs.Questions.{Question, ask, countFits, isKind, lengthFits, bytesFit, numbersFit, placesFit, firstNo, frameQuestions}
+use Rattle.line_frame.specs.Frame.{Frame, byteAt}
+use Rattle.lines.specs.Questions.{Question, ask, countFits, isKind, lengthFits, bytesFit, numbersFit, countsFit, placesFit, firstNo, frameQuestions}
 use Rattle.lines.specs.Answer.{replyOf, answerOf}
 
 -- ---- a frame in 148 bytes, zeros after it
@@ -106,8 +106,11 @@ module _ (at : Frame) (n p : ℕ) (h : firstNo (frameQuestions at n p) ≡ 0) wh
   abbrev from-eighth : List Question
   from-eighth = ask 8 (placesFit at p) ∷ []
 
+  abbrev from-seventh : List Question
+  from-seventh = ask 7 (countsFit at) ∷ from-eighth
+
   abbrev from-sixth : List Question
-  from-sixth = ask 6 (numbersFit at) ∷ from-eighth
+  from-sixth = ask 6 (numbersFit at) ∷ from-seventh
 
   abbrev from-fifth : List Question
   from-fifth = ask 5 (bytesFit at) ∷ from-sixth
@@ -123,5 +126,6 @@ module _ (at : Frame) (n p : ℕ) (h : firstNo (frameQuestions at n p) ≡ 0) wh
       let fourth = passed (ask 3 (isKind at)) from-fourth (λ e. omega arith) h .1 in
       let fifth = passed (ask 4 (lengthFits n at)) from-fifth (λ e. omega arith) fourth .1 in
       let sixth = passed (ask 5 (bytesFit at)) from-sixth (λ e. omega arith) fifth .1 in
-      let eighth = passed (ask 6 (numbersFit at)) from-eighth (λ e. omega arith) sixth .1 in
+      let seventh = passed (ask 6 (numbersFit at)) from-seventh (λ e. omega arith) sixth .1 in
+      let eighth = passed (ask 7 (countsFit at)) from-eighth (λ e. omega arith) seventh .1 in
       passed (ask 8 (placesFit at p)) [] (λ e. omega arith) eighth .0

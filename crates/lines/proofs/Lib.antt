@@ -1,6 +1,4 @@
-pub mod Stores
-pub mod Numbers
+pub mod KindRows
 pub mod Asked
 pub mod Checks
-pub mod Replies
 pub mod Entry

@@ -13,7 +13,16 @@ abbrev pub kind : ℕ → ℕ → ℕ → Kind
 kind n frame places = record { number = n; frame = frame; places = places }
 
 abbrev pub kinds : List Kind
-kinds = kind 0x00 148 728 ∷ []
+kinds =
+    kind 0x00 148 728
+    ∷ kind 0x01 97 728
+    ∷ kind 0x02 147 728
+    ∷ kind 0x03 147 728
+    ∷ kind 0x04 97 728
+    ∷ kind 0x05 97 728
+    ∷ kind 0x06 97 228
+    ∷ kind 0x07 97 228
+    ∷ []
 
 -- an entry of the row of the kind n; 0 where there is no such kind
 abbrev pub entry : (Kind → ℕ) → List Kind → ℕ → ℕ

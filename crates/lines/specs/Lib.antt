@@ -1,6 +1,6 @@
-pub mod Frame
-pub mod Reply
 pub mod CheckLine
+pub mod ShapeLine
+pub mod Quartics
 pub mod Kinds
 pub mod Questions
 pub mod Answer

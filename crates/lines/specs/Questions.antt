@@ -5,8 +5,9 @@ use Prim.Native.Nat.{ℕ, _%_}
 use lib.Dec.{eqb, leb}
 use lib.ListN.{length}
 use Rattle.hex.specs.Hex.{allDigits, bytesOf}
-use Rattle.lines.specs.Frame.{Frame, byteAt, numbersAt, allFinite}
+use Rattle.line_frame.specs.Frame.{Frame, byteAt, numbersAt, allFinite}
 use Rattle.lines.specs.Kinds.{frameBytes, replyPlaces}
+use Rattle.lines.specs.Quartics.{bothSuit}
 
 -- 1. The count of characters is even, from 2 to 296.
 abbrev pub countFits : ℕ → Bool
@@ -32,6 +33,10 @@ bytesFit at =
 unfoldable pub numbersFit : Frame → Bool
 numbersFit at = cond (eqb (at 0) 0x00) (allFinite (numbersAt at 60 11)) (allFinite (numbersAt at 1 12))
 
+-- 7. Kinds 02 and 03: each count suits its quartic. Both are tested, also where the Rust stops earlier.
+unfoldable pub countsFit : Frame → Bool
+countsFit at = cond (eqb (at 0) 0x02 || eqb (at 0) 0x03) (bothSuit at) true
+
 -- 8. The lent places are enough for the reply.
 abbrev pub placesFit : Frame → ℕ → Bool
 placesFit at n = leb (replyPlaces (at 0)) n
@@ -56,6 +61,7 @@ frameQuestions at n p =
     ∷ ask 4 (lengthFits n at)
     ∷ ask 5 (bytesFit at)
     ∷ ask 6 (numbersFit at)
+    ∷ ask 7 (countsFit at)
     ∷ ask 8 (placesFit at p)
     ∷ []
 

@@ -1,40 +1,34 @@
 // Kind 00: `check` on a record that holds the line's times.
-use super::labels::label;
-use super::labels::signs;
-use super::reading::number_at;
-use super::reading::times;
-use super::reply::put_record;
-use profile::ControlSigns;
-use profile::Direction;
-use profile::ReachedLimits;
+use labels::label;
+use labels::signs;
+use labels::start_labels;
+use line_frame::check_numbers;
+use line_reply::write_record;
 use profile::in_place::Goal;
-use profile::in_place::Labels;
 use profile::in_place::check;
 ghost use mathlib.Core.Path.{_≡_};
+ghost use Prim.Native.Nat.{_≤_};
 ghost use lib.ListN.{length};
-ghost use Rattle.lines.specs.Frame.{byteAt};
+ghost use Rattle.hex.specs.Hex.{hexOf, fill};
+ghost use Rattle.line_frame.specs.Frame.{byteAt};
+ghost use Rattle.line_reply.specs.Reply.{replyBytesOf};
 ghost use Rattle.lines.specs.CheckLine.{checkLineOf};
-ghost use Rattle.lines.specs.Reply.{replyBytesOf};
 
-pub fn check_line(frame: &[u8; 148], reply: &mut [u8; 364])
-    requires { ⌜ length (now reply) ≡ 364 ⌝ }
-    ensures { λ _. ⌜ now (reply .exit) ≡ replyBytesOf (checkLineOf (byteAt (now (frame .entry)))) ⌝ }
+pub fn check_line(frame: &[u8; 148], reply: &mut [u8])
+    requires { ⌜ 728 ≤ length (now reply) ⌝ }
+    ensures { λ _. ⌜ now (reply .exit) ≡ fill (hexOf (replyBytesOf (checkLineOf (byteAt (now (frame .entry)))))) (now (reply .entry)) ⌝ }
 {
-    let t = times(frame);
+    let x = check_numbers(frame);
+    let t = x.t;
     let mut t_sum = [0.0; 7];
     let mut j = [0.0; 7];
-    let mut a = [number_at(frame, 76), 0.0, 0.0, 0.0, 0.0, 0.0, 0.0, 0.0];
-    let mut v = [number_at(frame, 68), 0.0, 0.0, 0.0, 0.0, 0.0, 0.0, 0.0];
-    let mut p = [number_at(frame, 60), 0.0, 0.0, 0.0, 0.0, 0.0, 0.0, 0.0];
+    let mut a = [x.a0, 0.0, 0.0, 0.0, 0.0, 0.0, 0.0, 0.0];
+    let mut v = [x.v0, 0.0, 0.0, 0.0, 0.0, 0.0, 0.0, 0.0];
+    let mut p = [x.p0, 0.0, 0.0, 0.0, 0.0, 0.0, 0.0, 0.0];
     let goal = Goal {
-        pf: number_at(frame, 84),
-        vf: number_at(frame, 92),
-        af: number_at(frame, 100),
-    };
-    let labels = Labels {
-        limits: ReachedLimits::None,
-        direction: Direction::UP,
-        control_signs: ControlSigns::UDDU,
+        pf: x.pf,
+        vf: x.vf,
+        af: x.af,
     };
     let answer = check(
         &t,
@@ -44,15 +38,15 @@ pub fn check_line(frame: &[u8; 148], reply: &mut [u8; 364])
         &mut v,
         &mut p,
         goal,
-        labels,
+        start_labels(),
         signs(frame[1]),
         label(frame[2]),
         frame[3] == 1,
-        number_at(frame, 108),
-        number_at(frame, 116),
-        number_at(frame, 124),
-        number_at(frame, 132),
-        number_at(frame, 140),
+        x.jf,
+        x.v_max,
+        x.v_min,
+        x.a_max,
+        x.a_min,
     );
-    put_record(reply, answer, &t, &t_sum, &j, &a, &v, &p);
+    write_record(reply, answer, &t, &t_sum, &j, &a, &v, &p);
 }

@@ -1,11 +1,10 @@
 // The line entry: one frame a line, in hexadecimal digits, answered by a reply or by the number of the first question that it fails.
 mod check_line;
 mod kinds;
-mod labels;
+mod quartics;
 mod questions;
-mod reading;
-mod reply;
 mod replying;
+mod shape_line;
 
 use hex::decode;
 use questions::count_fits;

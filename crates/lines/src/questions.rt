@@ -1,10 +1,12 @@
 // Document 01's questions to a line. The first with a no gives its number.
 use super::kinds::frame_bytes;
 use super::kinds::reply_places;
-use super::reading::all_finite;
+use super::quartics::both_suit;
+use line_frame::check_numbers_finite;
+use line_frame::shape_numbers_finite;
 ghost use mathlib.Core.Path.{_≡_};
-ghost use Rattle.lines.specs.Frame.{byteAt};
-ghost use Rattle.lines.specs.Questions.{countFits, bytesFit, numbersFit, firstNo, frameQuestions};
+ghost use Rattle.line_frame.specs.Frame.{byteAt};
+ghost use Rattle.lines.specs.Questions.{countFits, bytesFit, numbersFit, countsFit, firstNo, frameQuestions};
 
 pub fn count_fits(n: usize) -> bool
     ensures { λ r. ⌜ r ≡ countFits n ⌝ }
@@ -29,10 +31,20 @@ fn numbers_fit(frame: &[u8; 148]) -> bool
     ensures { λ r. ⌜ r ≡ numbersFit (byteAt (now (frame .entry))) ⌝ }
 {
     if frame[0] == 0x00 {
-        all_finite(frame, 60, 11)
+        check_numbers_finite(frame)
     } else {
-        all_finite(frame, 1, 12)
+        shape_numbers_finite(frame)
     }
+}
+
+fn counts_fit(frame: &[u8; 148]) -> bool
+    ensures { λ r. ⌜ r ≡ countsFit (byteAt (now (frame .entry))) ⌝ }
+{
+    let kind = frame[0];
+    if (kind == 0x02) | (kind == 0x03) {
+        return both_suit(frame);
+    }
+    true
 }
 
 // The questions from the third on, to a frame of n bytes, where p places are lent.
@@ -52,6 +64,9 @@ pub fn first_no(frame: &[u8; 148], n: usize, p: usize) -> u32
     }
     if !numbers_fit(frame) {
         return 6;
+    }
+    if !counts_fit(frame) {
+        return 7;
     }
     if p < reply_places(kind) {
         return 8;

@@ -4,7 +4,7 @@ use lib.ListN.{length}
 use Prim.Native.Nat.{_/_}
 use borrow.Author.Needs.{needs}
 use borrow.Author.Tests.{not-true, not-false}
-use Rattle.lines.specs.Frame.{byteAt}
+use Rattle.line_frame.specs.Frame.{byteAt}
 use Rattle.lines.proofs.Entry.{first, second, later, replied, known, roomy}
 use Rattle.lines.proofs.answer_line.Statement.{statement}
 use Rattle.lines.proofs.answer_line.Tie as tie

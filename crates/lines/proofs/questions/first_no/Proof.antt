@@ -4,8 +4,8 @@ use native.Mathlib.Omega.{arith}
 use lib.ListN.{getD}
 use borrow.Author.Needs.{needs}
 use borrow.Author.Tests.{not-true, not-false}
-use Rattle.lines.specs.Frame.{byteAt}
-use Rattle.lines.proofs.Asked.{third, fourth, fifth, sixth, eighth, none}
+use Rattle.line_frame.specs.Frame.{byteAt}
+use Rattle.lines.proofs.Asked.{third, fourth, fifth, sixth, seventh, eighth, none}
 use Rattle.lines.proofs.questions.first_no.Statement.{statement}
 use Rattle.lines.proofs.questions.first_no.Tie as tie
 
@@ -45,16 +45,31 @@ returns-5 c =
     let i2 = i3 .before .before in
     let w = i2 .before .before in
     let q = w .before .before .args in
-    eighth (byteAt (q .frame .now)) (q .n) (q .p) (w .frame-bytes .result) (w .frame-bytes .ensures) (i2 .before .if1 .left) (i2 .if2 .left)
+    seventh (byteAt (q .frame .now)) (q .n) (q .p) (w .frame-bytes .result) (w .frame-bytes .ensures) (i2 .before .if1 .left) (i2 .if2 .left)
     (sym (i3 .before .bytes-fit .ensures) ∙ not-false (i3 .before .bytes-fit .result) (i3 .if3 .left))
     (sym (i4 .before .numbers-fit .ensures) ∙ not-false (i4 .before .numbers-fit .result) (i4 .if4 .left))
-    (c .before .reply-places .result)
-    (c .before .reply-places .ensures)
-    (c .if5 .taken)
+    (sym (c .before .counts-fit .ensures) ∙ not-true (c .before .counts-fit .result) (c .if5 .taken))
 
 returns-6 : tie.Need-returns-6
 returns-6 c =
-    let i4 = c .before .before in
+    let i5 = c .before .before in
+    let i4 = i5 .before .before in
+    let i3 = i4 .before .before in
+    let i2 = i3 .before .before in
+    let w = i2 .before .before in
+    let q = w .before .before .args in
+    eighth (byteAt (q .frame .now)) (q .n) (q .p) (w .frame-bytes .result) (w .frame-bytes .ensures) (i2 .before .if1 .left) (i2 .if2 .left)
+    (sym (i3 .before .bytes-fit .ensures) ∙ not-false (i3 .before .bytes-fit .result) (i3 .if3 .left))
+    (sym (i4 .before .numbers-fit .ensures) ∙ not-false (i4 .before .numbers-fit .result) (i4 .if4 .left))
+    (sym (i5 .before .counts-fit .ensures) ∙ not-false (i5 .before .counts-fit .result) (i5 .if5 .left))
+    (c .before .reply-places .result)
+    (c .before .reply-places .ensures)
+    (c .if6 .taken)
+
+returns-7 : tie.Need-returns-7
+returns-7 c =
+    let i5 = c .before .before in
+    let i4 = i5 .before .before in
     let i3 = i4 .before .before in
     let i2 = i3 .before .before in
     let w = i2 .before .before in
@@ -62,9 +77,10 @@ returns-6 c =
     none (byteAt (q .frame .now)) (q .n) (q .p) (w .frame-bytes .result) (w .frame-bytes .ensures) (i2 .before .if1 .left) (i2 .if2 .left)
     (sym (i3 .before .bytes-fit .ensures) ∙ not-false (i3 .before .bytes-fit .result) (i3 .if3 .left))
     (sym (i4 .before .numbers-fit .ensures) ∙ not-false (i4 .before .numbers-fit .result) (i4 .if4 .left))
+    (sym (i5 .before .counts-fit .ensures) ∙ not-false (i5 .before .counts-fit .result) (i5 .if5 .left))
     (c .before .reply-places .result)
     (c .before .reply-places .ensures)
-    (c .if5 .left)
+    (c .if6 .left)
 
 pub first-no-spec : {M : Type 1} → statement M
 first-no-spec =
@@ -80,4 +96,6 @@ first-no-spec =
     returns-4
     (λ c κs. search needs)
     returns-5
-    returns-6)
+    (λ c κs. search needs)
+    returns-6
+    returns-7)

@@ -1,0 +1,89 @@
+// The labels of a record as document 01's numbers, and back.
+use profile::ControlSigns;
+use profile::Direction;
+use profile::ReachedLimits;
+use profile::in_place::Labels;
+ghost use mathlib.Core.Path.{_≡_};
+ghost use Rattle.profile.specs.Labels.{labelNumber, directionNumber, signsNumber};
+ghost use Rattle.labels.specs.Labels.{labelOf, signsOf, startLabels};
+
+pub fn label(n: u8) -> ReachedLimits
+    ensures { λ r. ⌜ r ≡ labelOf n ⌝ }
+{
+    if n == 0 {
+        return ReachedLimits::Acc0Acc1Vel;
+    }
+    if n == 1 {
+        return ReachedLimits::Vel;
+    }
+    if n == 2 {
+        return ReachedLimits::Acc0;
+    }
+    if n == 3 {
+        return ReachedLimits::Acc1;
+    }
+    if n == 4 {
+        return ReachedLimits::Acc0Acc1;
+    }
+    if n == 5 {
+        return ReachedLimits::Acc0Vel;
+    }
+    if n == 6 {
+        return ReachedLimits::Acc1Vel;
+    }
+    ReachedLimits::None
+}
+
+pub fn signs(n: u8) -> ControlSigns
+    ensures { λ r. ⌜ r ≡ signsOf n ⌝ }
+{
+    if n == 0 {
+        ControlSigns::UDDU
+    } else {
+        ControlSigns::UDUD
+    }
+}
+
+pub fn label_number(limits: ReachedLimits) -> u8
+    ensures { λ r. ⌜ r ≡ labelNumber limits ⌝ }
+{
+    match limits {
+        ReachedLimits::Acc0Acc1Vel => 0,
+        ReachedLimits::Vel => 1,
+        ReachedLimits::Acc0 => 2,
+        ReachedLimits::Acc1 => 3,
+        ReachedLimits::Acc0Acc1 => 4,
+        ReachedLimits::Acc0Vel => 5,
+        ReachedLimits::Acc1Vel => 6,
+        ReachedLimits::None => 7,
+    }
+}
+
+pub fn direction_number(direction: Direction) -> u8
+    ensures { λ r. ⌜ r ≡ directionNumber direction ⌝ }
+{
+    match direction {
+        Direction::UP => 0,
+        Direction::DOWN => 1,
+    }
+}
+
+pub fn signs_number(control_signs: ControlSigns) -> u8
+    ensures { λ r. ⌜ r ≡ signsNumber «control_signs» ⌝ }
+{
+    match control_signs {
+        ControlSigns::UDDU => 0,
+        ControlSigns::UDUD => 1,
+    }
+}
+
+// The labels of `Profile::default()`.
+pub fn start_labels() -> Labels
+    ensures { λ r. ⌜ r ≡ startLabels ⌝ }
+{
+    Labels {
+        limits: ReachedLimits::None,
+        direction: Direction::UP,
+        control_signs: ControlSigns::UDDU,
+    }
+}

@@ -1,0 +1,7 @@
+pub mod Characters
+pub mod Rows
+pub mod Sums
+pub mod Agreeing
+pub mod Carried
+pub mod Answered
+pub mod Theorem

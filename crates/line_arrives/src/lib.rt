@@ -1,0 +1,1 @@
+// Theorems only: demand 3 over the characters of a line and of its reply.

@@ -1,0 +1,58 @@
+-- The numbers of a frame by their names, and its root answers. Definitions only.
+use mathlib.Core.Bool.{cond}
+use Prim.Native.Nat.{ℕ, _+_}
+use lib.Dec.{eqb}
+use Rattle.roots.specs.declared.RootAnswer.{RootAnswer}
+use Rattle.roots.specs.declared.RootAnswer.the-variants.{CubeRoot, Resolved}
+use Rattle.line_frame.specs.declared.CheckNumbers.{CheckNumbers}
+use Rattle.line_frame.specs.declared.ShapeNumbers.{ShapeNumbers}
+use Rattle.line_frame.specs.Frame.{Frame, numberAt, numbersAt}
+
+-- Kind 00, after kind, signs, label and set_limits: seven times; p0 v0 a0 pf vf af; jf v_max v_min a_max a_min.
+unfoldable pub checkNumbersOf : Frame → CheckNumbers
+checkNumbersOf at =
+    record {
+      t = numbersAt at 4 7;
+      p0 = numberAt at 60;
+      v0 = numberAt at 68;
+      a0 = numberAt at 76;
+      pf = numberAt at 84;
+      vf = numberAt at 92;
+      af = numberAt at 100;
+      jf = numberAt at 108;
+      «v_max» = numberAt at 116;
+      «v_min» = numberAt at 124;
+      «a_max» = numberAt at 132;
+      «a_min» = numberAt at 140;
+    }
+
+-- Kinds 01 to 07, after the kind: twelve numbers, in the order of `new`.
+unfoldable pub shapeNumbersOf : Frame → ShapeNumbers
+shapeNumbersOf at =
+    record {
+      tf = numberAt at 1;
+      p0 = numberAt at 9;
+      v0 = numberAt at 17;
+      a0 = numberAt at 25;
+      pf = numberAt at 33;
+      vf = numberAt at 41;
+      af = numberAt at 49;
+      «v_max» = numberAt at 57;
+      «v_min» = numberAt at 65;
+      «a_max» = numberAt at 73;
+      «a_min» = numberAt at 81;
+      «j_max» = numberAt at 89;
+    }
+
+-- The root answer from place i on: a count and three numbers. Count 0 means that the first number is the cube root.
+unfoldable pub rootAnswerOf : Frame → ℕ → RootAnswer
+rootAnswerOf at i =
+    cond (eqb (at i) 0) (CubeRoot (numberAt at (i + 1)))
+    (Resolved (at i) (record { x0 = numberAt at (i + 1); x1 = numberAt at (i + 9); x2 = numberAt at (i + 17) }))
+
+-- UDDU's stands first, after the twelve numbers.
+abbrev pub firstAnswerOf : Frame → RootAnswer
+firstAnswerOf at = rootAnswerOf at 97
+
+abbrev pub secondAnswerOf : Frame → RootAnswer
+secondAnswerOf at = rootAnswerOf at 122

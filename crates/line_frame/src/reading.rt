@@ -1,0 +1,57 @@
+// Numbers out of a frame's bytes.
+use float::from_bits;
+use frame::finite_bits;
+use frame::u64_from_be_bytes;
+ghost use mathlib.Core.Path.{_≡_};
+ghost use Prim.Native.Nat.{_+_, _*_, _≤_};
+ghost use Rattle.line_frame.specs.Frame.{byteAt, wordAt, numberAt, numbersAt, allFinite};
+
+fn word_at(frame: &[u8; 148], at: usize) -> u64
+    requires { ⌜ at + 8 ≤ 148 ⌝ }
+    ensures { λ r. ⌜ r ≡ wordAt (byteAt (now (frame .entry))) at ⌝ }
+{
+    u64_from_be_bytes([
+        frame[at],
+        frame[at + 1],
+        frame[at + 2],
+        frame[at + 3],
+        frame[at + 4],
+        frame[at + 5],
+        frame[at + 6],
+        frame[at + 7],
+    ])
+}
+
+pub fn number_at(frame: &[u8; 148], at: usize) -> f64
+    requires { ⌜ at + 8 ≤ 148 ⌝ }
+    ensures { λ r. ⌜ r ≡ numberAt (byteAt (now (frame .entry))) at ⌝ }
+{
+    from_bits(word_at(frame, at))
+}
+
+// Kind 00's times.
+pub fn times(frame: &[u8; 148]) -> [f64; 7]
+    ensures { λ r. ⌜ r ≡ numbersAt (byteAt (now (frame .entry))) 4 7 ⌝ }
+{
+    [
+        number_at(frame, 4),
+        number_at(frame, 12),
+        number_at(frame, 20),
+        number_at(frame, 28),
+        number_at(frame, 36),
+        number_at(frame, 44),
+        number_at(frame, 52),
+    ]
+}
+
+// Whether n numbers from a place on are finite.
+pub fn all_finite(frame: &[u8; 148], at: usize, n: usize) -> bool
+    requires { ⌜ at + 8 * n ≤ 148 ⌝ }
+    ensures { λ r. ⌜ r ≡ allFinite (numbersAt (byteAt (now (frame .entry))) at n) ⌝ }
+{
+    let mut ok = true;
+    for i in 0..n {
+        ok = ok & finite_bits(word_at(frame, at + 8 * i));
+    }
+    ok
+}

@@ -1,0 +1,56 @@
+-- The replies: of kinds 00 to 05 the verdict and the whole record, in 364 bytes; of kinds 06 and 07 two quartics, in 114. Definitions only.
+use mathlib.Core.Bool.{Bool, true, false, cond}
+use mathlib.Core.List.{List, [], _∷_, _++_}
+use Prim.Native.Nat.{ℕ}
+use lib.Dec.{leb}
+use lib.ListN.{length, getD}
+use lib.Ieee.{Float, nan}
+use Rattle.hex.specs.Hex.{Filled, hexOf, fill}
+use Rattle.frame.specs.Bytes.{numberBytes}
+use Rattle.profile.specs.Labels.{labelNumber, directionNumber, signsNumber}
+use Rattle.profile.specs.Check.{labelsOf}
+use Rattle.profile.specs.declared.Profile.{Profile}
+use Rattle.profile.specs.declared.in_place.Answer.{Answer}
+use Rattle.profile.specs.declared.Checked.{Checked}
+use Rattle.roots.specs.Quartic.{needOf, needNumber, resolventOf}
+
+-- numbers one after the other, eight bytes each
+abbrev pub numbersBytes : List Float → List ℕ
+numbersBytes [] = []
+numbersBytes (x ∷ xs) = numberBytes x ++ numbersBytes xs
+
+-- verdict (1 yes), label, direction, signs
+unfoldable pub headOf : Answer → List ℕ
+headOf r =
+    let l = r .labels in
+    cond (r .ok) 1 0 ∷ labelNumber (l .limits) ∷ directionNumber (l .direction) ∷ signsNumber (l .«control_signs») ∷ []
+
+-- t, t_sum, j (7 each), a, v, p (8 each)
+unfoldable pub rowsOf : List Float → List Float → List Float → List Float → List Float → List Float → List ℕ
+rowsOf t t-sum j a v p =
+    numbersBytes t
+    ++ numbersBytes t-sum
+    ++ numbersBytes j
+    ++ numbersBytes a
+    ++ numbersBytes v
+    ++ numbersBytes p
+
+unfoldable pub replyBytesOf : Checked → List ℕ
+replyBytesOf c =
+    let q = c .profile in
+    headOf (record { ok = c .ok; labels = labelsOf q }) ++ rowsOf (q .t) (q .«t_sum») (q .j) (q .a) (q .v) (q .p)
+
+-- for x⁴ + a x³ + b x² + c x + d: the need, a b c d, and the resolvent's three arguments
+unfoldable pub quarticBytesOf : Float → Float → Float → Float → List ℕ
+quarticBytesOf a b c d =
+    let r = resolventOf a b c d in
+    needNumber (needOf a b c d) ∷ numbersBytes (a ∷ b ∷ c ∷ d ∷ r .x0 ∷ r .x1 ∷ r .x2 ∷ [])
+
+-- the same, of four coefficients
+abbrev pub quarticBytes : List Float → List ℕ
+quarticBytes p = quarticBytesOf (getD p 0 nan) (getD p 1 nan) (getD p 2 nan) (getD p 3 nan)
+
+-- A reply of n characters goes into the first lent places; where these are fewer than n the answer is no, and they stay as they came.
+unfoldable pub writtenOf : ℕ → List ℕ → List ℕ → Filled
+writtenOf n bytes lent =
+    cond (leb n (length lent)) (record { ok = true; left = fill (hexOf bytes) lent }) (record { ok = false; left = lent })
