@@ -1,4 +1,4 @@
--- The moves that document 01 works through: each gets the verdict and the numbers that the document gives. Computed; assumes nothing.
+-- The moves that document 01 works through, as lines: each gets the verdict and the numbers that the document gives. Computed; assumes nothing.
 use mathlib.Core.Bool.{true}
 use mathlib.Core.Path.{_≡_, refl}
 use lib.Ieee.{ofBits, toBits, lt, le, eq, neg, add, sub, mul, div}
@@ -21,8 +21,16 @@ use Rattle.step2_solver.specs.TimeAcc0Acc1.{acc0Acc1RestApplies, acc0Acc1RestH1
 use Rattle.position_third_step2.specs.Attempt.{attemptOf}
 use Rattle.position_third_step2.specs.TimeAcc0Acc1Vel.{acc0Acc1VelUddu, acc0Acc1VelUdud, timeAcc0Acc1VelOf}
 use Rattle.position_third_step2.specs.TimeAcc0Acc1.{acc0Acc1Rest, timeAcc0Acc1Of}
-use Rattle.marked_moves.specs.Moves.{asked, moved, table, right}
+use Rattle.line_frame.specs.Frame.{wordAt}
+use Rattle.line_frame.specs.Numbers.{checkNumbersOf, shapeNumbersOf, rootAnswerOf}
+use Rattle.line_reply.specs.Reply.{headOf, rowsOf, replyBytesOf}
+use Rattle.lines.specs.CheckLine.{checkLineOf}
+use Rattle.lines.specs.ShapeLine.{shapeLineOf}
+use Rattle.lines.specs.Kinds.{frameBytes, replyPlaces}
+use Rattle.lines.specs.Questions.{bytesFit, numbersFit, countsFit}
+use Rattle.lines.specs.Answer.{replyOf, answerOf}
+use Rattle.marked_moves.specs.Moves.{table, right}
 
 pub marked-moves : right table ≡ true
-unfolding ofBits toBits lt le eq neg add sub mul div absOf integrateOf sqrtOf holds insertOf insertAllOf intoOf sortedOf needOf factorsOf quadraticOf withoutCdOf withCbrtOf resolvedOf offeredOf rootsOf testsOf jerksOf run sumStep sumsOf refusedOf bandOf replacedOf zeroInsideOf nodeOf phaseOf arrivedOf keptOf checkOf boundaryOf newOf acc0Acc1VelUdduApplies acc0Acc1VelUdduRadicand acc0Acc1VelUdduH1 acc0Acc1VelUdduT1 acc0Acc1VelUdduTimes acc0Acc1VelUdudApplies acc0Acc1VelUdudT1 acc0Acc1VelUdudT3 acc0Acc1VelUdudTimes acc0Acc1RestApplies acc0Acc1RestH1 acc0Acc1RestH2 acc0Acc1RestJf acc0Acc1RestT1 acc0Acc1RestTimes attemptOf acc0Acc1VelUddu acc0Acc1VelUdud timeAcc0Acc1VelOf acc0Acc1Rest timeAcc0Acc1Of asked moved table
+unfolding ofBits toBits lt le eq neg add sub mul div absOf integrateOf sqrtOf holds insertOf insertAllOf intoOf sortedOf needOf factorsOf quadraticOf withoutCdOf withCbrtOf resolvedOf offeredOf rootsOf testsOf jerksOf run sumStep sumsOf refusedOf bandOf replacedOf zeroInsideOf nodeOf phaseOf arrivedOf keptOf checkOf boundaryOf newOf acc0Acc1VelUdduApplies acc0Acc1VelUdduRadicand acc0Acc1VelUdduH1 acc0Acc1VelUdduT1 acc0Acc1VelUdduTimes acc0Acc1VelUdudApplies acc0Acc1VelUdudT1 acc0Acc1VelUdudT3 acc0Acc1VelUdudTimes acc0Acc1RestApplies acc0Acc1RestH1 acc0Acc1RestH2 acc0Acc1RestJf acc0Acc1RestT1 acc0Acc1RestTimes attemptOf acc0Acc1VelUddu acc0Acc1VelUdud timeAcc0Acc1VelOf acc0Acc1Rest timeAcc0Acc1Of wordAt checkNumbersOf shapeNumbersOf rootAnswerOf headOf rowsOf replyBytesOf checkLineOf shapeLineOf frameBytes replyPlaces bytesFit numbersFit countsFit replyOf answerOf table
 marked-moves = refl
