@@ -1,8 +1,6 @@
 // `check` by value for the benchmarks in bench/: the record is made of lent arrays, and what comes back is stored there.
 // It has a library of its own: beside another caller of `check` in place, that function is called and not inlined.
 use bench_labels::answer_number;
-use bench_labels::limits_at;
-use bench_labels::signs_at;
 use profile::ControlSigns;
 use profile::Direction;
 use profile::Profile;
@@ -51,8 +49,8 @@ pub extern "C" fn bench_check_by_value(
         control_signs: ControlSigns::UDDU,
     };
     let checked = profile.check(
-        signs_at(signs),
-        limits_at(label),
+        labels::signs(signs),
+        labels::label(label),
         set_limits,
         jf,
         v_max,

@@ -1,9 +1,7 @@
 // What the benchmarks in bench/ call from Rust: the square root, and `check` in place on lent arrays.
 // An exported function takes no enum, so signs and labels are numbers.
 use bench_labels::answer_number;
-use bench_labels::limits_at;
-use bench_labels::signs_at;
-use bench_labels::start_labels;
+use labels::start_labels;
 use profile::in_place::Goal;
 ghost use mathlib.Core.Path.{_≡_};
 ghost use Rattle.sqrt.specs.Sqrt.{sqrtOf};
@@ -49,8 +47,8 @@ pub extern "C" fn bench_check_in_place(
         p,
         Goal { pf, vf, af },
         start_labels(),
-        signs_at(signs),
-        limits_at(label),
+        labels::signs(signs),
+        labels::label(label),
         set_limits,
         jf,
         v_max,

@@ -7,7 +7,8 @@ use Rattle.profile.specs.Check.{checkOf, profileOf, labelsOf}
 use Rattle.profile.specs.Phase.{Nodes}
 use Rattle.profile.specs.declared.Checked.{Checked}
 use Rattle.profile.specs.declared.in_place.Goal.{Goal}
-use Rattle.bench_labels.specs.Codes.{limitsAt, signsAt, startLabels, answerNumber}
+use Rattle.labels.specs.Labels.{labelOf, signsOf, startLabels}
+use Rattle.bench_labels.specs.Codes.{answerNumber}
 
 -- what a call leaves: its answer, and the five lent arrays
 pub record Left : Type 0 where
@@ -28,4 +29,4 @@ leftOf c =
 -- `check` of a record with these times, sums, jerks and nodes, this goal, and the labels of `Profile::default()`
 unfoldable pub checkLentOf : List Float → List Float → List Float → Nodes → Goal → ℕ → ℕ → Bool → Float → Float → Float → Float → Float → Left
 checkLentOf t t-sum j nodes goal signs label set-limits jf v-max v-min a-max a-min =
-    leftOf (checkOf (signsAt signs) (limitsAt label) set-limits jf v-max v-min a-max a-min (profileOf t t-sum j nodes goal startLabels))
+    leftOf (checkOf (signsOf signs) (labelOf label) set-limits jf v-max v-min a-max a-min (profileOf t t-sum j nodes goal startLabels))

@@ -3,6 +3,11 @@
 use digits::byte_to_digits;
 use digits::from_digits;
 use digits::to_digits;
+use labels::direction_number;
+use labels::label;
+use labels::label_number;
+use labels::signs;
+use labels::signs_number;
 use position_third_step2::time_acc0;
 use position_third_step2::time_acc0_acc1;
 use position_third_step2::time_acc0_acc1_vel;
@@ -96,53 +101,6 @@ fn three(line: &[u8], at0: usize, at1: usize, at2: usize) -> Three {
         x0: number(line, at0),
         x1: number(line, at1),
         x2: number(line, at2),
-    }
-}
-
-fn label(n: u8) -> ReachedLimits {
-    match n {
-        0 => ReachedLimits::Acc0Acc1Vel,
-        1 => ReachedLimits::Vel,
-        2 => ReachedLimits::Acc0,
-        3 => ReachedLimits::Acc1,
-        4 => ReachedLimits::Acc0Acc1,
-        5 => ReachedLimits::Acc0Vel,
-        6 => ReachedLimits::Acc1Vel,
-        _ => ReachedLimits::None,
-    }
-}
-
-fn signs(n: u8) -> ControlSigns {
-    match n {
-        0 => ControlSigns::UDDU,
-        _ => ControlSigns::UDUD,
-    }
-}
-
-fn label_number(l: ReachedLimits) -> u8 {
-    match l {
-        ReachedLimits::Acc0Acc1Vel => 0,
-        ReachedLimits::Vel => 1,
-        ReachedLimits::Acc0 => 2,
-        ReachedLimits::Acc1 => 3,
-        ReachedLimits::Acc0Acc1 => 4,
-        ReachedLimits::Acc0Vel => 5,
-        ReachedLimits::Acc1Vel => 6,
-        ReachedLimits::None => 7,
-    }
-}
-
-fn direction_number(d: Direction) -> u8 {
-    match d {
-        Direction::UP => 0,
-        Direction::DOWN => 1,
-    }
-}
-
-fn signs_number(s: ControlSigns) -> u8 {
-    match s {
-        ControlSigns::UDDU => 0,
-        ControlSigns::UDUD => 1,
     }
 }
 

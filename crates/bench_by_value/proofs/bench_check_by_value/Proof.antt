@@ -1,7 +1,7 @@
 -- `bench_check_by_value` is `checkLentOf`. Assumes nothing.
 use mathlib.Core.Path.{refl}
 use borrow.Author.Needs.{needs}
-use Rattle.bench_labels.specs.Codes.{startLabels}
+use Rattle.labels.specs.Labels.{startLabels}
 use Rattle.bench_labels.proofs.Left.{left}
 use Rattle.bench_by_value.proofs.bench_check_by_value.Statement.{statement}
 use Rattle.bench_by_value.proofs.bench_check_by_value.Tie as tie
@@ -12,10 +12,10 @@ returns c =
     let l = k .before in
     let s = l .before in
     let q = s .before .before .before .before .before .before .before .args in
-    left (q .t .now) (q .t-sum .now) (q .j .now) (record { a = q .a .now; v = q .v .now; p = q .p .now }) (record { pf = q .pf; vf = q .vf; af = q .af }) (q .signs) (q .label) (q .set-limits) (q .jf) (q .v-max) (q .v-min) (q .a-max) (q .a-min) startLabels (s .signs-at .result) (l .limits-at .result)
+    left (q .t .now) (q .t-sum .now) (q .j .now) (record { a = q .a .now; v = q .v .now; p = q .p .now }) (record { pf = q .pf; vf = q .vf; af = q .af }) (q .signs) (q .label) (q .set-limits) (q .jf) (q .v-max) (q .v-min) (q .a-max) (q .a-min) startLabels (s .signs .result) (l .label .result)
     refl
-    (s .signs-at .ensures)
-    (l .limits-at .ensures)
+    (s .signs .ensures)
+    (l .label .ensures)
     (k .check .result)
     (c .answer-number .result)
     (k .check .ensures)
