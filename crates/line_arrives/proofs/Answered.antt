@@ -24,7 +24,7 @@ use Rattle.lines.specs.Questions.{Question, ask, countFits, isKind, lengthFits,
 use Rattle.lines.specs.Answer.{replyOf, answerOf}
 use Rattle.line_arrives.specs.LineArrives.{AsksShape, moveIn}
 use Rattle.line_arrives.proofs.Characters.{bytes-first}
-use Rattle.line_arrives.proofs.Rows.{reply-bytes}
+use Rattle.line_places.proofs.Bytes.{reply-bytes}
 
 -- ---- no question got a no
 passed : (q : Question) (qs : List Question) → (q .number ≡ 0 → ⊥) → firstNo (q ∷ qs) ≡ 0 → (q .yes ≡ true) × (firstNo qs ≡ 0)

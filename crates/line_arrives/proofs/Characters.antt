@@ -6,15 +6,7 @@ use native.Mathlib.Omega.{arith}
 use lib.ListN.{getD}
 use Rattle.hex.specs.Hex.{valueOf, bytesOf, digitOf, hexOf}
 use Rattle.hex.proofs.Laws.{bytes-back}
-
--- every one of a list is a byte
-abbrev pub Bytes : List ℕ → Type 0
-Bytes [] = Unit {0}
-Bytes (b ∷ bs) = (b < 256) × Bytes bs
-
-pub bytes-append : (xs ys : List ℕ) → Bytes xs → Bytes ys → Bytes (xs ++ ys)
-bytes-append [] ys h k = k
-bytes-append (x ∷ xs) ys h k = (h .0, bytes-append xs ys (h .1) k)
+use Rattle.line_places.proofs.Bytes.{Bytes}
 
 -- one byte's two digits
 two-digits : (b : ℕ) → b < 256 → 16 * valueOf (digitOf (b / 16)) + valueOf (digitOf (b % 16)) ≡ b

@@ -1,6 +1,5 @@
 pub mod Characters
 pub mod Rows
-pub mod Sums
 pub mod Agreeing
 pub mod Carried
 pub mod Answered

@@ -2,61 +2,20 @@
 use mathlib.Core.Path.{_≡_, refl, sym, ap, _∙_, subst}
 use mathlib.Core.Bool.{Bool, true, false, cond}
 use mathlib.Core.List.{List, [], _∷_, _++_, append-assoc}
-use Prim.Native.Nat.{ℕ, zero, suc, _+_, _*_, _%_, _<_}
+use Prim.Native.Nat.{ℕ, zero, suc, _+_, _*_, _<_}
 use native.Mathlib.Nat.{not-suc-le-zero, le-of-suc-le-suc}
 use native.Mathlib.Omega.{arith}
 use lib.Dec.{T}
 use lib.ListN.{length, getD, length-append}
 use lib.Seq.{getD-append-seam, getD-append-add}
-use lib.Ieee.{Float, nan, binary64, fits, ofBits, toBits}
-use Rattle.frame.specs.Bytes.{wordOf, wordBytes, numberBytes}
+use lib.Ieee.{Float, nan, binary64, fits, ofBits}
+use Rattle.frame.specs.Bytes.{wordOf, numberBytes}
 use Rattle.frame.proofs.Eight.{number-back}
-use Rattle.profile.specs.Labels.{labelNumber, directionNumber, signsNumber}
 use Rattle.profile.specs.Check.{labelsOf}
-use Rattle.profile.specs.declared.ReachedLimits.{ReachedLimits}
-use Rattle.profile.specs.declared.ReachedLimits.the-variants.{Acc0Acc1Vel, Vel, Acc0, Acc1, Acc0Acc1, Acc0Vel, Acc1Vel, None}
-use Rattle.profile.specs.declared.Direction.{Direction}
-use Rattle.profile.specs.declared.Direction.the-variants.{UP, DOWN}
-use Rattle.profile.specs.declared.ControlSigns.{ControlSigns}
-use Rattle.profile.specs.declared.ControlSigns.the-variants.{UDDU, UDUD}
 use Rattle.profile.specs.declared.Profile.{Profile}
 use Rattle.profile.specs.declared.Checked.{Checked}
 use Rattle.line_frame.specs.Frame.{byteAt, wordAt, numberAt}
 use Rattle.line_reply.specs.Reply.{numbersBytes, headOf, rowsOf, replyBytesOf}
-use Rattle.line_arrives.proofs.Characters.{Bytes, bytes-append}
-
--- ---- every entry is a byte
-rest-lt : (w : ℕ) → w % 256 < 256
-rest-lt w = omega arith
-
-word-are-bytes : (w : ℕ) → Bytes (wordBytes w)
-word-are-bytes w = (rest-lt _, (rest-lt _, (rest-lt _, (rest-lt _, (rest-lt _, (rest-lt _, (rest-lt _, (rest-lt _, tt))))))))
-
-numbers-are-bytes : (xs : List Float) → Bytes (numbersBytes xs)
-numbers-are-bytes [] = tt
-numbers-are-bytes (x ∷ xs) = bytes-append (numberBytes x) (numbersBytes xs) (word-are-bytes (toBits binary64 x)) (numbers-are-bytes xs)
-
-label-lt : (l : ReachedLimits) → labelNumber l < 256
-label-lt Acc0Acc1Vel = omega arith
-label-lt Vel = omega arith
-label-lt Acc0 = omega arith
-label-lt Acc1 = omega arith
-label-lt Acc0Acc1 = omega arith
-label-lt Acc0Vel = omega arith
-label-lt Acc1Vel = omega arith
-label-lt None = omega arith
-
-direction-lt : (d : Direction) → directionNumber d < 256
-direction-lt UP = omega arith
-direction-lt DOWN = omega arith
-
-signs-lt : (c : ControlSigns) → signsNumber c < 256
-signs-lt UDDU = omega arith
-signs-lt UDUD = omega arith
-
-verdict-lt : (b : Bool) → cond b 1 0 < 256
-verdict-lt true = omega arith
-verdict-lt false = omega arith
 
 -- ---- one number among bytes
 module _ (before : List ℕ) (a b c d e f g h : ℕ) (after : List ℕ) where
@@ -96,22 +55,6 @@ row-length [] = refl
 row-length (x ∷ xs) = let h = row-length xs in omega arith
 
 -- ---- the reply
-pub reply-bytes : (c : Checked) → Bytes (replyBytesOf c)
-unfolding replyBytesOf headOf rowsOf
-reply-bytes c =
-    let q = c .profile in
-    (verdict-lt (c .ok), (label-lt (q .limits), (direction-lt (q .direction), (signs-lt (q .«control_signs»), rows (q .t) (q .«t_sum») (q .j) (q .a) (q .v) (q .p)))))
-  where
-    both : (xs : List ℕ) (row : List Float) → Bytes xs → Bytes (xs ++ numbersBytes row)
-    both xs row h = bytes-append xs (numbersBytes row) h (numbers-are-bytes row)
-
-    rows : (t s j a v p : List Float) → Bytes (numbersBytes t ++ numbersBytes s ++ numbersBytes j ++ numbersBytes a ++ numbersBytes v ++ numbersBytes p)
-    rows t s j a v p =
-        let ts = numbersBytes t ++ numbersBytes s in
-        let tsj = ts ++ numbersBytes j in
-        let tsja = tsj ++ numbersBytes a in
-        both (tsja ++ numbersBytes v) p (both tsja v (both tsj a (both ts j (both (numbersBytes t) s (numbers-are-bytes t)))))
-
 module _ (h t s j a v p rest : List ℕ) where
   -- six rows after a head, seen from the first and from the third
   from-first : h ++ (t ++ s ++ j ++ a ++ v ++ p) ++ rest ≡ h ++ (t ++ (s ++ j ++ a ++ v ++ p ++ rest))

@@ -3,12 +3,7 @@ use mathlib.Core.Path.{_≡_, refl, sym, ap, _∙_, subst}
 use mathlib.Core.Bool.{true}
 use mathlib.Core.List.{List, _++_}
 use Prim.Native.Nat.{ℕ, _+_, _*_, _<_}
-use lib.ListN.{length}
-use lib.Ieee.{Float}
 use Rattle.profile.specs.declared.Profile.{Profile}
-use Rattle.profile.specs.Signs.{jerksOf}
-use Rattle.profile.specs.declared.ControlSigns.{ControlSigns}
-use Rattle.profile.specs.Boundary.{boundaryOf}
 use Rattle.rounding.specs.Value.{Finite}
 use Rattle.arrival.specs.Reply.{time, jerk, Within}
 use Rattle.arrival.proofs.Facts.{yes-finite, held-jerk}
@@ -23,29 +18,16 @@ use Rattle.line_frame.specs.Frame.{byteAt, numberAt}
 use Rattle.line_frame.specs.Numbers.{firstAnswerOf, secondAnswerOf}
 use Rattle.line_reply.specs.Reply.{replyBytesOf}
 use Rattle.lines.specs.ShapeLine.{shapeAt}
+use Rattle.line_places.proofs.Lengths.{Lengths, shape-keeps}
+use Rattle.line_places.proofs.Replies.{fresh-lengths}
 use Rattle.lines.specs.Answer.{answerOf}
 use Rattle.line_arrives.specs.LineArrives.{AsksShape, moveIn, SaysYes, timeIn, jerkIn, Sizes, LineArrives, Demand3, Closely}
 use Rattle.line_arrives.proofs.Rows.{verdict-back, time-back, jerk-back}
-use Rattle.line_arrives.proofs.Sums.{Seven, shape-sums}
 use Rattle.line_arrives.proofs.Agreeing.{Agree}
 use Rattle.line_arrives.proofs.Carried.{within, line-arrives}
 use Rattle.line_arrives.proofs.Answered.{answer-fits, shaped, numbers-are, rest, bytes-are}
 
-jerks-length : (signs : ControlSigns) (t : List Float) (jf : Float) → length (jerksOf signs t jf) ≡ 7
-unfolding jerksOf
-jerks-length signs t jf = refl
-
-fresh-seven : (m : Move) → Seven (fresh m)
-unfolding boundaryOf
-fresh-seven m = refl
-
 module _ {m : Move} {q : Profile} (d : Made m q) where
-  times-seven : length (q .t) ≡ 7
-  times-seven = ap (λ (t : List Float). length t) (made-yes d .carried .t-is ∙ d .times-are)
-
-  jerks-seven : length (q .j) ≡ 7
-  jerks-seven = ap (λ (t : List Float). length t) (made-yes d .j-is) ∙ jerks-length (d .signs) (d .before .t) (d .jf)
-
   all-finite : (i : ℕ) → i < 7 → Finite (time q i) × Finite (jerk q i)
   all-finite i l = let w = yes-finite (made-yes d) i l in (w .t-finite, w .j-finite)
 
@@ -72,21 +54,21 @@ module _ (line lent : List ℕ) (none : answerOf line lent .number ≡ 0) (asks 
       let n = numbers-are line lent none asks in
       shape-made (shapeAt (at 0)) (firstAnswerOf at) (secondAnswerOf at) (answer-fits at 97) (answer-fits at 122) n (fresh (moveIn line)) (fresh-starts n) accepted
 
+  lengths : Lengths q
+  lengths =
+      let at = byteAt (bytesOf line) in
+      let m = moveIn line in
+      shape-keeps (shapeAt (at 0)) _ (firstAnswerOf at) (secondAnswerOf at) (m .v-max) (m .v-min) (m .a-max) (m .a-min) (m .j-max) (fresh m) (fresh-lengths (m .p0) (m .v0) (m .a0) (m .pf) (m .vf) (m .af)) .lengths
+
   times-agree : Agree 7 (time q) (timeIn reply)
   times-agree i l =
       sym (ap (λ (b : List ℕ). numberAt (byteAt b) (4 + 8 * i)) read
-      ∙ time-back (shaped line) beyond i (subst (λ (n : ℕ). i < n) (sym (times-seven made)) l) (made-starts made .held .held-t i l))
-
-  sums-seven : Seven q
-  sums-seven =
-      let at = byteAt (bytesOf line) in
-      let m = moveIn line in
-      shape-sums (shapeAt (at 0)) _ (firstAnswerOf at) (secondAnswerOf at) (m .v-max) (m .v-min) (m .a-max) (m .a-min) (m .j-max) (fresh m) (fresh-seven m) .seven
+      ∙ time-back (shaped line) beyond i (subst (λ (n : ℕ). i < n) (sym (lengths .seven-t)) l) (made-starts made .held .held-t i l))
 
   jerks-agree : Agree 7 (jerk q) (jerkIn reply)
   jerks-agree i l =
       sym (ap (λ (b : List ℕ). numberAt (byteAt b) (116 + 8 * i)) read
-      ∙ jerk-back (shaped line) beyond (times-seven made) sums-seven i (subst (λ (n : ℕ). i < n) (sym (jerks-seven made)) l) (held-jerk (made-yes made) (made .held-jf) i l))
+      ∙ jerk-back (shaped line) beyond (lengths .seven-t) (lengths .seven-t-sum) i (subst (λ (n : ℕ). i < n) (sym (lengths .seven-j)) l) (held-jerk (made-yes made) (made .held-jf) i l))
 
   -- one way for both distances
   carried : {w : Distances} {f : Fraction} → Arrival w f (moveIn line) q → LineArrives w f line reply

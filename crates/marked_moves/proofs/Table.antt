@@ -18,9 +18,9 @@ use Rattle.profile.specs.Boundary.{boundaryOf}
 use Rattle.step2_solver.specs.New.{newOf}
 use Rattle.step2_solver.specs.TimeAcc0Acc1Vel.{acc0Acc1VelUdduApplies, acc0Acc1VelUdduRadicand, acc0Acc1VelUdduH1, acc0Acc1VelUdduT1, acc0Acc1VelUdduTimes, acc0Acc1VelUdudApplies, acc0Acc1VelUdudT1, acc0Acc1VelUdudT3, acc0Acc1VelUdudTimes}
 use Rattle.step2_solver.specs.TimeAcc0Acc1.{acc0Acc1RestApplies, acc0Acc1RestH1, acc0Acc1RestH2, acc0Acc1RestJf, acc0Acc1RestT1, acc0Acc1RestTimes}
-use Rattle.position_third_step2.specs.Attempt.{attemptOf}
-use Rattle.position_third_step2.specs.TimeAcc0Acc1Vel.{acc0Acc1VelUddu, acc0Acc1VelUdud, timeAcc0Acc1VelOf}
-use Rattle.position_third_step2.specs.TimeAcc0Acc1.{acc0Acc1Rest, timeAcc0Acc1Of}
+use Rattle.step2_attempt.specs.Attempt.{attemptOf}
+use Rattle.step2_shapes.specs.TimeAcc0Acc1Vel.{acc0Acc1VelUddu, acc0Acc1VelUdud, timeAcc0Acc1VelOf}
+use Rattle.step2_shapes.specs.TimeAcc0Acc1.{acc0Acc1Rest, timeAcc0Acc1Of}
 use Rattle.line_frame.specs.Frame.{wordAt}
 use Rattle.line_frame.specs.Numbers.{checkNumbersOf, shapeNumbersOf, rootAnswerOf}
 use Rattle.line_reply.specs.Reply.{headOf, rowsOf, replyBytesOf}

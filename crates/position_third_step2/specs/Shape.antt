@@ -7,11 +7,11 @@ use Rattle.roots.specs.declared.RootAnswer.{RootAnswer}
 use Rattle.step2_solver.specs.declared.PositionThirdOrderStep2.{PositionThirdOrderStep2}
 use Rattle.position_third_step2.specs.declared.Shape.{Shape}
 use Rattle.position_third_step2.specs.declared.Shape.the-variants.{Acc0Acc1Vel, Acc1Vel, Acc0Vel, Acc0Acc1, Acc0}
-use Rattle.position_third_step2.specs.TimeAcc0Acc1Vel.{timeAcc0Acc1VelOf}
-use Rattle.position_third_step2.specs.TimeAcc1Vel.{timeAcc1VelOf}
-use Rattle.position_third_step2.specs.TimeAcc0Vel.{timeAcc0VelOf}
-use Rattle.position_third_step2.specs.TimeAcc0Acc1.{timeAcc0Acc1Of}
-use Rattle.position_third_step2.specs.TimeAcc0.{timeAcc0Of}
+use Rattle.step2_shapes.specs.TimeAcc0Acc1Vel.{timeAcc0Acc1VelOf}
+use Rattle.step2_shapes_quartic.specs.TimeAcc1Vel.{timeAcc1VelOf}
+use Rattle.step2_shapes_quartic.specs.TimeAcc0Vel.{timeAcc0VelOf}
+use Rattle.step2_shapes.specs.TimeAcc0Acc1.{timeAcc0Acc1Of}
+use Rattle.step2_shapes.specs.TimeAcc0.{timeAcc0Of}
 
 -- document 01's kind for each shape
 abbrev pub shapeKind : Shape → ℕ

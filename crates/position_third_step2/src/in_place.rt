@@ -1,14 +1,14 @@
 // A shape asked in place: the profile's arrays are lent, so that nothing is copied from one attempt to the next.
 use super::Shape;
-use super::acc0::time_acc0;
-use super::acc0_acc1::time_acc0_acc1;
-use super::acc0_acc1_vel::time_acc0_acc1_vel;
-use super::acc0_vel::time_acc0_vel;
-use super::acc1_vel::time_acc1_vel;
 use profile::in_place::Answer;
 use profile::in_place::Goal;
 use profile::in_place::Labels;
 use roots::RootAnswer;
+use step2_shapes::acc0::time_acc0;
+use step2_shapes::acc0_acc1::time_acc0_acc1;
+use step2_shapes::acc0_acc1_vel::time_acc0_acc1_vel;
+use step2_shapes_quartic::acc0_vel::time_acc0_vel;
+use step2_shapes_quartic::acc1_vel::time_acc1_vel;
 use step2_solver::PositionThirdOrderStep2;
 ghost use mathlib.Core.Path.{_≡_};
 ghost use Rattle.profile.specs.Phase.{Nodes};

@@ -1,10 +1,4 @@
 // position_third_step2.rs: five shapes of step 2, each a few attempts at seven times, tried in the Rust's order.
-mod acc0;
-mod acc0_acc1;
-mod acc0_acc1_vel;
-mod acc0_vel;
-mod acc1_vel;
-mod attempt;
 pub mod in_place;
 
 use in_place::ask;
@@ -16,11 +10,11 @@ use roots::RootAnswer;
 use step2_solver::PositionThirdOrderStep2;
 ghost use mathlib.Core.Path.{_≡_};
 ghost use Rattle.position_third_step2.specs.Shape.{shapeOf};
-ghost use Rattle.position_third_step2.specs.TimeAcc0Acc1Vel.{timeAcc0Acc1VelOf};
-ghost use Rattle.position_third_step2.specs.TimeAcc1Vel.{timeAcc1VelOf};
-ghost use Rattle.position_third_step2.specs.TimeAcc0Vel.{timeAcc0VelOf};
-ghost use Rattle.position_third_step2.specs.TimeAcc0Acc1.{timeAcc0Acc1Of};
-ghost use Rattle.position_third_step2.specs.TimeAcc0.{timeAcc0Of};
+ghost use Rattle.step2_shapes.specs.TimeAcc0Acc1Vel.{timeAcc0Acc1VelOf};
+ghost use Rattle.step2_shapes_quartic.specs.TimeAcc1Vel.{timeAcc1VelOf};
+ghost use Rattle.step2_shapes_quartic.specs.TimeAcc0Vel.{timeAcc0VelOf};
+ghost use Rattle.step2_shapes.specs.TimeAcc0Acc1.{timeAcc0Acc1Of};
+ghost use Rattle.step2_shapes.specs.TimeAcc0.{timeAcc0Of};
 
 pub enum Shape {
     Acc0Acc1Vel,

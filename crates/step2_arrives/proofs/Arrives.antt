@@ -31,7 +31,7 @@ use Rattle.arrival.proofs.Facts.{jerk-is, yes-finite, time-above, total-is}
 use Rattle.arrival.proofs.Distances.{Narrowed, wider}
 use Rattle.arrival.proofs.CheckArrives.{check-recorded, check-arrives-closely}
 use Rattle.step2_times.specs.Facts.{Accepted, roundings, Lasts, Jerks, residual}
-use Rattle.position_third_step2.specs.Attempt.{timesOf}
+use Rattle.step2_attempt.specs.Attempt.{timesOf}
 use Rattle.step2_arrives.specs.Moves.{Move, Numbers, Starts, Close, in-place, in-time, Demand3, Closely}
 use Rattle.step2_arrives.proofs.Made.{Made, starts-left}
 use Rattle.step2_arrives.proofs.Sound.{AlwaysSound}

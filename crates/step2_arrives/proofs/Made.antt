@@ -18,7 +18,7 @@ use Rattle.arrival.proofs.Steps.{by-seven}
 use Rattle.arrival.proofs.Yes.{Carried, held-left}
 use Rattle.step2_solver.specs.declared.Times.{Times}
 use Rattle.step2_times.specs.Facts.{Accepted, Lasts, Jerks, residual, Replaces}
-use Rattle.position_third_step2.specs.Attempt.{timesOf}
+use Rattle.step2_attempt.specs.Attempt.{timesOf}
 use Rattle.step2_arrives.specs.Moves.{Move, StartOf, Starts}
 
 pub record TimesFit (x : Times) : Type 0 where

@@ -20,12 +20,12 @@ use Rattle.step2_solver_quartic.specs.TimeAcc1Vel.{acc1VelUdduPolynom, acc1VelT
 use Rattle.step2_solver_quartic.specs.TimeAcc0Vel.{acc0VelTooShort, acc0VelPh1, acc0VelUdduPolynom, acc0VelUdduTMin, acc0VelUdduTMax, acc0VelUdduNewton, acc0VelUdduH1, acc0VelUdduTimes, acc0VelUdudPolynom, acc0VelUdudTMin, acc0VelUdudTMax, acc0VelUdudNewton, acc0VelUdudH1, acc0VelUdudTimes}
 use Rattle.position_third_step2.specs.declared.Shape.{Shape}
 use Rattle.position_third_step2.specs.declared.Shape.the-variants.{Acc0Acc1Vel, Acc1Vel, Acc0Vel, Acc0Acc1, Acc0}
-use Rattle.position_third_step2.specs.Attempt.{attemptOf}
-use Rattle.position_third_step2.specs.TimeAcc0Acc1Vel.{acc0Acc1VelUddu, acc0Acc1VelUdud, timeAcc0Acc1VelOf}
-use Rattle.position_third_step2.specs.TimeAcc1Vel.{acc1VelUdduRoot, acc1VelUdudRoot, acc1VelUddu, acc1VelUdud, timeAcc1VelOf}
-use Rattle.position_third_step2.specs.TimeAcc0Vel.{acc0VelUdduRoot, acc0VelUdudRoot, acc0VelUddu, acc0VelUdud, timeAcc0VelOf}
-use Rattle.position_third_step2.specs.TimeAcc0Acc1.{acc0Acc1Rest, acc0Acc1Uddu, timeAcc0Acc1Of}
-use Rattle.position_third_step2.specs.TimeAcc0.{acc0First, acc0Second, acc0Third, timeAcc0Of}
+use Rattle.step2_attempt.specs.Attempt.{attemptOf}
+use Rattle.step2_shapes.specs.TimeAcc0Acc1Vel.{acc0Acc1VelUddu, acc0Acc1VelUdud, timeAcc0Acc1VelOf}
+use Rattle.step2_shapes_quartic.specs.TimeAcc1Vel.{acc1VelUdduRoot, acc1VelUdudRoot, acc1VelUddu, acc1VelUdud, timeAcc1VelOf}
+use Rattle.step2_shapes_quartic.specs.TimeAcc0Vel.{acc0VelUdduRoot, acc0VelUdudRoot, acc0VelUddu, acc0VelUdud, timeAcc0VelOf}
+use Rattle.step2_shapes.specs.TimeAcc0Acc1.{acc0Acc1Rest, acc0Acc1Uddu, timeAcc0Acc1Of}
+use Rattle.step2_shapes.specs.TimeAcc0.{acc0First, acc0Second, acc0Third, timeAcc0Of}
 use Rattle.step2_arrives.specs.Moves.{Move, Numbers, solver, asked, Starts, Demand3, Closely}
 use Rattle.step2_arrives.proofs.Made.{Made}
 use Rattle.step2_arrives.proofs.Sound.{AlwaysSound, sound-nothing, sound-cond, sound-else, sound-roots, sound-attempt}

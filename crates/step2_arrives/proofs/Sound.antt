@@ -15,8 +15,8 @@ use Rattle.roots.specs.Set.{sortedOf}
 use Rattle.roots.specs.Quartic.{polynomRootsOf}
 use Rattle.roots.proofs.Laws.{Every, Fits64, AnswerFits, tried-fit}
 use Rattle.step2_solver.specs.declared.Times.{Times}
-use Rattle.position_third_step2.specs.Attempt.{attemptOf, nothing, orElse}
-use Rattle.position_third_step2.specs.Roots.{triesOf}
+use Rattle.step2_attempt.specs.Attempt.{attemptOf, nothing, orElse}
+use Rattle.step2_shapes_quartic.specs.Roots.{triesOf}
 use Rattle.step2_arrives.specs.Moves.{Move, Starts}
 use Rattle.step2_arrives.proofs.Made.{Timed, with-times, Made, starts-with-times, starts-left}
 

@@ -27,8 +27,8 @@ use Rattle.arrival.proofs.Steps.{by-seven}
 use Rattle.step2_solver.specs.New.{newOf}
 use Rattle.step2_solver.specs.TimeAcc0Acc1Vel.{acc0Acc1VelUdduApplies, acc0Acc1VelUdduRadicand, acc0Acc1VelUdduH1, acc0Acc1VelUdduT1, acc0Acc1VelUdduTimes}
 use Rattle.position_third_step2.specs.declared.Shape.the-variants.{Acc0Acc1Vel}
-use Rattle.position_third_step2.specs.Attempt.{attemptOf}
-use Rattle.position_third_step2.specs.TimeAcc0Acc1Vel.{acc0Acc1VelUddu, timeAcc0Acc1VelOf}
+use Rattle.step2_attempt.specs.Attempt.{attemptOf}
+use Rattle.step2_shapes.specs.TimeAcc0Acc1Vel.{acc0Acc1VelUddu, timeAcc0Acc1VelOf}
 use Rattle.step2_arrives.specs.Moves.{Move, Numbers, asked, fresh, Demand3}
 use Rattle.step2_arrives.proofs.Lines.{line-arrives}
 

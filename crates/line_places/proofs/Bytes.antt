@@ -1,0 +1,116 @@
+-- Every entry of a reply is a byte, so every one of its characters is a digit. Assumes nothing.
+use mathlib.Core.Path.{_≡_}
+use mathlib.Core.Bool.{Bool, true, false, cond}
+use mathlib.Core.List.{List, [], _∷_, _++_}
+use Prim.Native.Nat.{ℕ, zero, suc, _%_, _<_}
+use native.Mathlib.Omega.{arith}
+use lib.Dec.{lit≤}
+use lib.ListN.{getD}
+use lib.Ieee.{Float, nan, binary64, toBits}
+use Rattle.hex.specs.Hex.{allDigits, hexOf}
+use Rattle.hex.proofs.Laws.{all-digits}
+use Rattle.frame.specs.Bytes.{wordBytes, numberBytes}
+use Rattle.profile.specs.Labels.{labelNumber, directionNumber, signsNumber}
+use Rattle.profile.specs.declared.ReachedLimits.{ReachedLimits}
+use Rattle.profile.specs.declared.ReachedLimits.the-variants.{Acc0Acc1Vel, Vel, Acc0, Acc1, Acc0Acc1, Acc0Vel, Acc1Vel, None}
+use Rattle.profile.specs.declared.Direction.{Direction}
+use Rattle.profile.specs.declared.Direction.the-variants.{UP, DOWN}
+use Rattle.profile.specs.declared.ControlSigns.{ControlSigns}
+use Rattle.profile.specs.declared.ControlSigns.the-variants.{UDDU, UDUD}
+use Rattle.profile.specs.declared.Checked.{Checked}
+use Rattle.roots.specs.declared.Need.{Need}
+use Rattle.roots.specs.declared.Need.the-variants.{Nothing, Cube, Resolvent}
+use Rattle.roots.specs.Quartic.{needOf, needNumber, resolventOf}
+use Rattle.line_frame.specs.Frame.{Frame}
+use Rattle.line_reply.specs.Reply.{numbersBytes, headOf, rowsOf, replyBytesOf, quarticBytesOf, quarticBytes}
+use Rattle.lines.specs.Quartics.{quarticsAt, quarticLineOf}
+
+-- every one of a list is a byte
+abbrev pub Bytes : List ℕ → Type 0
+Bytes [] = Unit {0}
+Bytes (b ∷ bs) = (b < 256) × Bytes bs
+
+pub bytes-append : (xs ys : List ℕ) → Bytes xs → Bytes ys → Bytes (xs ++ ys)
+bytes-append [] ys h k = k
+bytes-append (x ∷ xs) ys h k = (h .0, bytes-append xs ys (h .1) k)
+
+pub bytes-digits : (bytes : List ℕ) → Bytes bytes → allDigits (hexOf bytes) ≡ true
+bytes-digits bytes h = all-digits bytes (each bytes h)
+  where
+    each : (bytes : List ℕ) → Bytes bytes → (i : ℕ) → getD bytes i 0 < 256
+    each [] h i = lit≤ tt
+    each (b ∷ bytes) h zero = h .0
+    each (b ∷ bytes) h (suc i) = each bytes (h .1) i
+
+-- ---- numbers, eight bytes each
+rest-lt : (w : ℕ) → w % 256 < 256
+rest-lt w = omega arith
+
+word-are-bytes : (w : ℕ) → Bytes (wordBytes w)
+word-are-bytes w = (rest-lt _, (rest-lt _, (rest-lt _, (rest-lt _, (rest-lt _, (rest-lt _, (rest-lt _, (rest-lt _, tt))))))))
+
+numbers-are-bytes : (xs : List Float) → Bytes (numbersBytes xs)
+numbers-are-bytes [] = tt
+numbers-are-bytes (x ∷ xs) = bytes-append (numberBytes x) (numbersBytes xs) (word-are-bytes (toBits binary64 x)) (numbers-are-bytes xs)
+
+-- ---- the single bytes
+verdict-lt : (b : Bool) → cond b 1 0 < 256
+verdict-lt true = lit≤ tt
+verdict-lt false = lit≤ tt
+
+label-lt : (l : ReachedLimits) → labelNumber l < 256
+label-lt Acc0Acc1Vel = lit≤ tt
+label-lt Vel = lit≤ tt
+label-lt Acc0 = lit≤ tt
+label-lt Acc1 = lit≤ tt
+label-lt Acc0Acc1 = lit≤ tt
+label-lt Acc0Vel = lit≤ tt
+label-lt Acc1Vel = lit≤ tt
+label-lt None = lit≤ tt
+
+direction-lt : (d : Direction) → directionNumber d < 256
+direction-lt UP = lit≤ tt
+direction-lt DOWN = lit≤ tt
+
+signs-lt : (c : ControlSigns) → signsNumber c < 256
+signs-lt UDDU = lit≤ tt
+signs-lt UDUD = lit≤ tt
+
+need-lt : (n : Need) → needNumber n < 256
+need-lt Nothing = lit≤ tt
+need-lt Cube = lit≤ tt
+need-lt Resolvent = lit≤ tt
+
+-- ---- kinds 00 to 05: the head and six rows
+rows : (t s j a v p : List Float) → Bytes (rowsOf t s j a v p)
+unfolding rowsOf
+rows t s j a v p =
+    let ts = numbersBytes t ++ numbersBytes s in
+    let tsj = ts ++ numbersBytes j in
+    let tsja = tsj ++ numbersBytes a in
+    and (tsja ++ numbersBytes v) p (and tsja v (and tsj a (and ts j (and (numbersBytes t) s (numbers-are-bytes t)))))
+  where
+    and : (xs : List ℕ) (row : List Float) → Bytes xs → Bytes (xs ++ numbersBytes row)
+    and xs row h = bytes-append xs (numbersBytes row) h (numbers-are-bytes row)
+
+pub reply-bytes : (c : Checked) → Bytes (replyBytesOf c)
+unfolding replyBytesOf headOf
+reply-bytes c =
+    let q = c .profile in
+    (verdict-lt (c .ok), (label-lt (q .limits), (direction-lt (q .direction), (signs-lt (q .«control_signs»), rows (q .t) (q .«t_sum») (q .j) (q .a) (q .v) (q .p)))))
+
+-- ---- kinds 06 and 07: two quartics
+quartic : (a b c d : Float) → Bytes (quarticBytesOf a b c d)
+unfolding quarticBytesOf
+quartic a b c d =
+    let r = resolventOf a b c d in
+    (need-lt (needOf a b c d), numbers-are-bytes (a ∷ b ∷ c ∷ d ∷ r .x0 ∷ r .x1 ∷ r .x2 ∷ []))
+
+of-list : (p : List Float) → Bytes (quarticBytes p)
+of-list p = quartic (getD p 0 nan) (getD p 1 nan) (getD p 2 nan) (getD p 3 nan)
+
+pub quartics-bytes : (at : Frame) → Bytes (quarticLineOf at)
+unfolding quarticLineOf
+quartics-bytes at =
+    let q = quarticsAt at in
+    bytes-append (quarticBytes (q .uddu)) (quarticBytes (q .udud)) (of-list (q .uddu)) (of-list (q .udud))

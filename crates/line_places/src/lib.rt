@@ -1,0 +1,1 @@
+// Theorems only: what the lent places hold after the line entry, place by place.

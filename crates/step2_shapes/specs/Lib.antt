@@ -1,0 +1,3 @@
+pub mod TimeAcc0Acc1Vel
+pub mod TimeAcc0Acc1
+pub mod TimeAcc0

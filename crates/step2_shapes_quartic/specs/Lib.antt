@@ -1,0 +1,3 @@
+pub mod Roots
+pub mod TimeAcc1Vel
+pub mod TimeAcc0Vel
