@@ -4,3 +4,4 @@ pub mod Agreeing
 pub mod Carried
 pub mod Answered
 pub mod Theorem
+pub mod Worked

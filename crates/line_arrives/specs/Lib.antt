@@ -1,1 +1,2 @@
 pub mod LineArrives
+pub mod Worked

@@ -1,0 +1,59 @@
+-- The premises of demand 3 at the line can be met: the answer to document 01's line of kind 01 is 0, its reply says yes and is within the sizes, and so it arrives. Assumes nothing.
+use mathlib.Core.Path.{_≡_, refl}
+use Prim.Native.Nat.{ℕ, _*_}
+use lib.Dec.{lit≤}
+use lib.ListN.{replicate}
+use lib.Ieee.{ofBits, toBits, lt, le, eq, neg, add, sub, mul, div}
+use Rattle.float.specs.Helpers.{absOf}
+use Rattle.util.specs.Integrate.{integrateOf}
+use Rattle.sqrt.specs.Sqrt.{sqrtOf}
+use Rattle.profile.specs.Labels.{testsOf}
+use Rattle.profile.specs.Signs.{jerksOf}
+use Rattle.profile.specs.Run.{run}
+use Rattle.profile.specs.Times.{sumStep, sumsOf, refusedOf}
+use Rattle.profile.specs.Limit.{bandOf}
+use Rattle.profile.specs.Phase.{replacedOf, zeroInsideOf, nodeOf, phaseOf}
+use Rattle.profile.specs.Check.{arrivedOf, keptOf, checkOf}
+use Rattle.profile.specs.Boundary.{boundaryOf}
+use Rattle.rounding.specs.Exact.{Size}
+use Rattle.rounding.specs.Value.{unit, mag, sign, val}
+use Rattle.rounding.specs.Motion.{lasts}
+use Rattle.arrival.proofs.Steps.{by-seven}
+use Rattle.step2_solver.specs.New.{newOf}
+use Rattle.step2_solver.specs.TimeAcc0Acc1Vel.{acc0Acc1VelUdduApplies, acc0Acc1VelUdduRadicand, acc0Acc1VelUdduH1, acc0Acc1VelUdduT1, acc0Acc1VelUdduTimes, acc0Acc1VelUdudApplies, acc0Acc1VelUdudT1, acc0Acc1VelUdudT3, acc0Acc1VelUdudTimes}
+use Rattle.step2_attempt.specs.Attempt.{attemptOf}
+use Rattle.step2_shapes.specs.TimeAcc0Acc1Vel.{acc0Acc1VelUddu, acc0Acc1VelUdud, timeAcc0Acc1VelOf}
+use Rattle.line_frame.specs.Frame.{wordAt}
+use Rattle.line_frame.specs.Numbers.{shapeNumbersOf}
+use Rattle.line_reply.specs.Reply.{headOf, rowsOf, replyBytesOf}
+use Rattle.lines.specs.ShapeLine.{shapeLineOf}
+use Rattle.lines.specs.Kinds.{frameBytes, replyPlaces}
+use Rattle.lines.specs.Questions.{bytesFit, numbersFit, countsFit}
+use Rattle.lines.specs.Answer.{Answer, replyOf, answerOf}
+use Rattle.line_arrives.specs.LineArrives.{AsksShape, SaysYes, jerkIn, Sizes, Demand3}
+use Rattle.line_arrives.specs.Worked.{worked-line}
+use Rattle.line_arrives.proofs.Theorem.{yes-arrives}
+
+abbrev answer : Answer
+answer = answerOf worked-line (replicate 728 0)
+
+-- all of it computes
+met : (answer .number ≡ 0) × AsksShape worked-line × SaysYes (answer .places) × Sizes worked-line (answer .places)
+unfolding timeAcc0Acc1VelOf acc0Acc1VelUddu acc0Acc1VelUdduApplies acc0Acc1VelUdduRadicand acc0Acc1VelUdduH1 acc0Acc1VelUdduT1 acc0Acc1VelUdduTimes acc0Acc1VelUdud acc0Acc1VelUdudApplies acc0Acc1VelUdudT1 acc0Acc1VelUdudT3 acc0Acc1VelUdudTimes newOf attemptOf boundaryOf checkOf sumsOf sumStep run refusedOf testsOf jerksOf phaseOf nodeOf replacedOf zeroInsideOf integrateOf bandOf arrivedOf keptOf absOf sqrtOf ofBits toBits neg add sub mul div lt le eq wordAt shapeNumbersOf headOf rowsOf replyBytesOf shapeLineOf frameBytes replyPlaces bytesFit numbersFit countsFit replyOf answerOf unit mag sign val lasts
+met = (
+  refl,
+  (lit≤ tt, lit≤ tt),
+  refl,
+  record {
+    position = record { over = lit≤ tt; under = lit≤ tt };
+    velocity = record { over = lit≤ tt; under = lit≤ tt };
+    acceleration = record { over = lit≤ tt; under = lit≤ tt };
+    total = lit≤ tt;
+    jerks =
+        by-seven (λ (i : ℕ). Size (val (jerkIn (answer .places) i)) (64 * unit)) (record { over = lit≤ tt; under = lit≤ tt }) (record { over = lit≤ tt; under = lit≤ tt }) (record { over = lit≤ tt; under = lit≤ tt }) (record { over = lit≤ tt; under = lit≤ tt })
+        (record { over = lit≤ tt; under = lit≤ tt }) (record { over = lit≤ tt; under = lit≤ tt }) (record { over = lit≤ tt; under = lit≤ tt });
+  },
+)
+
+pub worked-arrives : Demand3 worked-line (answerOf worked-line (replicate 728 0) .places)
+worked-arrives = yes-arrives worked-line (replicate 728 0) (met .0) (met .1) (met .2) (met .3)
