@@ -20,7 +20,7 @@ use Rattle.line_frame.specs.Frame.{Frame, byteAt, wordAt, numberAt, numbersAt, 
 use Rattle.line_frame.specs.Numbers.{shapeNumbersOf, rootAnswerOf, firstAnswerOf, secondAnswerOf}
 use Rattle.line_reply.specs.Reply.{replyBytesOf}
 use Rattle.lines.specs.ShapeLine.{shapeAt, shapeLineOf}
-use Rattle.lines.specs.Questions.{Question, ask, countFits, isKind, lengthFits, bytesFit, numbersFit, countsFit, placesFit, firstNo, frameQuestions, questions}
+use Rattle.line_questions.specs.Questions.{Question, ask, countFits, isKind, lengthFits, bytesFit, numbersFit, countsFit, placesFit, firstNo, frameQuestions, questions}
 use Rattle.lines.specs.Answer.{replyOf, answerOf}
 use Rattle.line_arrives.specs.LineArrives.{AsksShape, moveIn}
 use Rattle.line_arrives.proofs.Characters.{bytes-first}

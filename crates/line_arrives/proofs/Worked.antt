@@ -27,8 +27,8 @@ use Rattle.line_frame.specs.Frame.{wordAt}
 use Rattle.line_frame.specs.Numbers.{shapeNumbersOf}
 use Rattle.line_reply.specs.Reply.{headOf, rowsOf, replyBytesOf}
 use Rattle.lines.specs.ShapeLine.{shapeLineOf}
-use Rattle.lines.specs.Kinds.{frameBytes, replyPlaces}
-use Rattle.lines.specs.Questions.{bytesFit, numbersFit, countsFit}
+use Rattle.line_questions.specs.Kinds.{frameBytes, replyPlaces}
+use Rattle.line_questions.specs.Questions.{bytesFit, numbersFit, countsFit}
 use Rattle.lines.specs.Answer.{Answer, replyOf, answerOf}
 use Rattle.line_arrives.specs.LineArrives.{AsksShape, SaysYes, jerkIn, Sizes, Demand3}
 use Rattle.line_arrives.specs.Worked.{worked-line}

@@ -23,7 +23,8 @@ use Rattle.roots.specs.declared.Need.the-variants.{Nothing, Cube, Resolvent}
 use Rattle.roots.specs.Quartic.{needOf, needNumber, resolventOf}
 use Rattle.line_frame.specs.Frame.{Frame}
 use Rattle.line_reply.specs.Reply.{numbersBytes, headOf, rowsOf, replyBytesOf, quarticBytesOf, quarticBytes}
-use Rattle.lines.specs.Quartics.{quarticsAt, quarticLineOf}
+use Rattle.line_questions.specs.Quartics.{quarticsAt}
+use Rattle.lines.specs.QuarticLine.{quarticLineOf}
 
 -- every one of a list is a byte
 abbrev pub Bytes : List ℕ → Type 0

@@ -10,10 +10,10 @@ use borrow.Author.Tests.{ne-eqb, eqb-true, eqb-false, leb-true}
 use Rattle.hex.specs.Hex.{allDigits, bytesOf}
 use Rattle.hex.proofs.Laws.{length-hex}
 use Rattle.line_frame.specs.Frame.{Frame, byteAt}
-use Rattle.lines.specs.Kinds.{replyPlaces}
-use Rattle.lines.specs.Questions.{countFits, isKind, lengthFits, bytesFit, numbersFit, countsFit, placesFit, firstNo, frameQuestions, questions}
+use Rattle.line_questions.specs.Kinds.{replyPlaces}
+use Rattle.line_questions.specs.Questions.{countFits, isKind, lengthFits, bytesFit, numbersFit, countsFit, placesFit, firstNo, frameQuestions, questions}
 use Rattle.lines.specs.Answer.{replyOf, answerOf}
-use Rattle.lines.proofs.KindRows.{at-most-seven}
+use Rattle.line_questions.proofs.KindRows.{at-most-seven}
 use Rattle.lines.proofs.Entry.{known, roomy}
 use Rattle.line_places.specs.Exactly.{kindOf, replyTo, Untouched, FilledExactly}
 use Rattle.line_places.proofs.Bytes.{bytes-digits}

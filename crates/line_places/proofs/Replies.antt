@@ -16,11 +16,12 @@ use Rattle.line_frame.specs.Numbers.{checkNumbersOf, shapeNumbersOf, firstAnswe
 use Rattle.line_reply.specs.Reply.{numbersBytes, headOf, rowsOf, replyBytesOf, quarticBytesOf}
 use Rattle.line_reply.proofs.Rows.{length-numbers}
 use Rattle.lines.specs.CheckLine.{checkLineOf}
-use Rattle.lines.specs.ShapeLine.{shapeAt, solverOf, startOf, shapeLineOf}
-use Rattle.lines.specs.Quartics.{quarticLineOf}
-use Rattle.lines.specs.Kinds.{replyPlaces}
+use Rattle.line_questions.specs.Quartics.{solverOf}
+use Rattle.lines.specs.ShapeLine.{shapeAt, startOf, shapeLineOf}
+use Rattle.lines.specs.QuarticLine.{quarticLineOf}
+use Rattle.line_questions.specs.Kinds.{replyPlaces}
 use Rattle.lines.specs.Answer.{replyOf}
-use Rattle.lines.proofs.KindRows.{place-rows}
+use Rattle.line_questions.proofs.KindRows.{place-rows}
 use Rattle.line_places.proofs.Lengths.{Lengths, check-keeps, shape-keeps}
 use Rattle.line_places.proofs.Bytes.{Bytes, reply-bytes, quartics-bytes}
 

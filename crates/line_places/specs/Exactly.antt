@@ -6,7 +6,7 @@ use Prim.Native.Nat.{ℕ, _≤_}
 use lib.ListN.{length, drop}
 use Rattle.hex.specs.Hex.{allDigits, bytesOf, hexOf}
 use Rattle.line_frame.specs.Frame.{byteAt}
-use Rattle.lines.specs.Kinds.{replyPlaces}
+use Rattle.line_questions.specs.Kinds.{replyPlaces}
 use Rattle.lines.specs.Answer.{replyOf, answerOf}
 
 -- the kind of a line: the first byte that its characters stand for

@@ -6,7 +6,7 @@ use Prim.Native.Nat.{ℕ, _%_, _<_}
 use lib.Dec.{eqb, leb}
 use lib.ListN.{length}
 use borrow.Author.Tests.{lt-leb}
-use Rattle.lines.specs.Questions.{countFits}
+use Rattle.line_questions.specs.Questions.{countFits}
 use Rattle.lines.specs.Answer.{answerOf}
 
 long : (n : ℕ) → 296 < n → countFits n ≡ false

@@ -10,7 +10,7 @@ use lib.Seq.{getD-drop}
 use borrow.Author.Tests.{eq-eqb, ne-eqb, le-ltb, eqb-true, leb-true}
 use Rattle.hex.specs.Hex.{Filled, allDigits, bytesOf, hexOf, fill, padded, decodeOf}
 use Rattle.line_frame.specs.Frame.{Frame, byteAt}
-use Rattle.lines.specs.Questions.{Question, ask, countFits, isKind, lengthFits, bytesFit, numbersFit, countsFit, placesFit, firstNo, frameQuestions}
+use Rattle.line_questions.specs.Questions.{Question, ask, countFits, isKind, lengthFits, bytesFit, numbersFit, countsFit, placesFit, firstNo, frameQuestions}
 use Rattle.lines.specs.Answer.{replyOf, answerOf}
 
 -- ---- a frame in 148 bytes, zeros after it

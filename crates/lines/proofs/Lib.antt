@@ -1,4 +1,2 @@
-pub mod KindRows
-pub mod Asked
 pub mod Checks
 pub mod Entry

@@ -9,8 +9,8 @@ use Rattle.line_frame.specs.Frame.{Frame, byteAt}
 use Rattle.line_reply.specs.Reply.{replyBytesOf}
 use Rattle.lines.specs.CheckLine.{checkLineOf}
 use Rattle.lines.specs.ShapeLine.{shapeLineOf}
-use Rattle.lines.specs.Quartics.{quarticLineOf}
-use Rattle.lines.specs.Questions.{firstNo, questions}
+use Rattle.lines.specs.QuarticLine.{quarticLineOf}
+use Rattle.line_questions.specs.Questions.{firstNo, questions}
 
 pub record Answer : Type 0 where
   pub number : ℕ

@@ -1,6 +1,4 @@
 pub mod CheckLine
 pub mod ShapeLine
-pub mod Quartics
-pub mod Kinds
-pub mod Questions
+pub mod QuarticLine
 pub mod Answer

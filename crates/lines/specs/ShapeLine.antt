@@ -5,14 +5,13 @@ use lib.Dec.{eqb}
 use Rattle.profile.specs.declared.Profile.{Profile}
 use Rattle.profile.specs.declared.Checked.{Checked}
 use Rattle.profile.specs.Boundary.{defaultOf, boundaryOf}
-use Rattle.step2_solver.specs.declared.PositionThirdOrderStep2.{PositionThirdOrderStep2}
-use Rattle.step2_solver.specs.New.{newOf}
 use Rattle.position_third_step2.specs.declared.Shape.{Shape}
 use Rattle.position_third_step2.specs.declared.Shape.the-variants.{Acc0Acc1Vel, Acc1Vel, Acc0Vel, Acc0Acc1, Acc0}
 use Rattle.position_third_step2.specs.Shape.{shapeOf}
 use Rattle.line_frame.specs.declared.ShapeNumbers.{ShapeNumbers}
 use Rattle.line_frame.specs.Frame.{Frame}
 use Rattle.line_frame.specs.Numbers.{shapeNumbersOf, firstAnswerOf, secondAnswerOf}
+use Rattle.line_questions.specs.Quartics.{solverOf}
 
 -- the shape that a kind from 01 to 05 asks, in their order
 abbrev pub shapeAt : ℕ → Shape
@@ -21,10 +20,6 @@ shapeAt kind =
     (cond (eqb kind 0x02) Acc1Vel
     (cond (eqb kind 0x03) Acc0Vel
     (cond (eqb kind 0x04) Acc0Acc1 Acc0)))
-
--- the Rust's `new`, of the twelve numbers
-abbrev pub solverOf : ShapeNumbers → PositionThirdOrderStep2
-solverOf x = newOf (x .tf) (x .p0) (x .v0) (x .a0) (x .pf) (x .vf) (x .af) (x .«j_max»)
 
 -- every line starts from a default profile after `set_boundary`
 abbrev pub startOf : ShapeNumbers → Profile

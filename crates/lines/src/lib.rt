@@ -1,14 +1,12 @@
 // The line entry: one frame a line, in hexadecimal digits, answered by a reply or by the number of the first question that it fails.
 mod check_line;
-mod kinds;
-mod quartics;
-mod questions;
+mod quartic_line;
 mod replying;
 mod shape_line;
 
 use hex::decode;
-use questions::count_fits;
-use questions::first_no;
+use line_questions::questions::count_fits;
+use line_questions::questions::first_no;
 use replying::reply_to;
 ghost use mathlib.Core.Path.{_≡_};
 ghost use Rattle.lines.specs.Answer.{Answer, answerOf};

@@ -1,21 +1,20 @@
 // Kinds 01 to 05: a shape on a default profile after `set_boundary`.
 use labels::start_labels;
-use line_frame::ShapeNumbers;
 use line_frame::first_answer;
 use line_frame::second_answer;
 use line_frame::shape_numbers;
+use line_questions::solver;
 use line_reply::write_record;
 use position_third_step2::Shape;
 use position_third_step2::in_place::ask;
 use profile::in_place::Goal;
-use step2_solver::PositionThirdOrderStep2;
 ghost use mathlib.Core.Path.{_≡_};
 ghost use Prim.Native.Nat.{_≤_};
 ghost use lib.ListN.{length};
 ghost use Rattle.hex.specs.Hex.{hexOf, fill};
 ghost use Rattle.line_frame.specs.Frame.{byteAt};
 ghost use Rattle.line_reply.specs.Reply.{replyBytesOf};
-ghost use Rattle.lines.specs.ShapeLine.{shapeAt, solverOf, shapeLineOf};
+ghost use Rattle.lines.specs.ShapeLine.{shapeAt, shapeLineOf};
 
 fn shape_at(kind: u8) -> Shape
     ensures { λ r. ⌜ r ≡ shapeAt kind ⌝ }
@@ -33,25 +32,6 @@ fn shape_at(kind: u8) -> Shape
         return Shape::Acc0Acc1;
     }
     Shape::Acc0
-}
-
-pub fn solver(x: ShapeNumbers) -> PositionThirdOrderStep2
-    ensures { λ r. ⌜ r ≡ solverOf x ⌝ }
-{
-    PositionThirdOrderStep2::new(
-        x.tf,
-        x.p0,
-        x.v0,
-        x.a0,
-        x.pf,
-        x.vf,
-        x.af,
-        x.v_max,
-        x.v_min,
-        x.a_max,
-        x.a_min,
-        x.j_max,
-    )
 }
 
 pub fn shape_line(frame: &[u8; 148], reply: &mut [u8])

@@ -26,8 +26,8 @@ use Rattle.line_frame.specs.Numbers.{checkNumbersOf, shapeNumbersOf, rootAnswer
 use Rattle.line_reply.specs.Reply.{headOf, rowsOf, replyBytesOf}
 use Rattle.lines.specs.CheckLine.{checkLineOf}
 use Rattle.lines.specs.ShapeLine.{shapeLineOf}
-use Rattle.lines.specs.Kinds.{frameBytes, replyPlaces}
-use Rattle.lines.specs.Questions.{bytesFit, numbersFit, countsFit}
+use Rattle.line_questions.specs.Kinds.{frameBytes, replyPlaces}
+use Rattle.line_questions.specs.Questions.{bytesFit, numbersFit, countsFit}
 use Rattle.lines.specs.Answer.{replyOf, answerOf}
 use Rattle.marked_moves.specs.Moves.{table, right}
 

@@ -5,7 +5,7 @@ use lib.ListN.{length, getD}
 use borrow.Author.Tests.{eq-eqb, ne-eqb, le-leb, lt-leb}
 use borrow.Author.Needs.{needs}
 use Rattle.lines.specs.Answer.{replyOf}
-use Rattle.lines.proofs.KindRows.{record-room, quartics-room}
+use Rattle.line_questions.proofs.KindRows.{record-room, quartics-room}
 use Rattle.lines.proofs.replying.reply_to.Statement.{statement}
 use Rattle.lines.proofs.replying.reply_to.Tie as tie
 
