@@ -1,4 +1,5 @@
 pub mod Digits
-pub mod Lanes
+pub mod Pair
+pub mod Largest
 pub mod Turns
 pub mod Laws

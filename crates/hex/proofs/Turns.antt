@@ -1,4 +1,4 @@
--- A turn of the two loops, and their end: what is still to be stored from here is the whole from the start. Assumes nothing.
+-- A turn of each loop, and its end: what is still to be stored from here is the whole from the start. Assumes nothing.
 use mathlib.Core.Path.{_≡_, refl, ap, sym, _∙_}
 use mathlib.Core.Bool.{Bool, true, false, _&&_, _||_}
 use mathlib.Core.List.{List, [], _∷_, _++_, map}
@@ -8,27 +8,21 @@ use native.Mathlib.Numerals.{add-one}
 use native.Mathlib.Omega.{arith}
 use lib.Dec.{eqb, ltb}
 use lib.ListN.{length, getD, take, drop, set, length-append, length-drop, length-map, drop-of-length-le, List·getD-append, replicate, length-replicate, length-take}
-use lib.Seq.{drop-cons, drop-drop, drop-set-lt, getD-drop, take-at, drop-at, slice, slice-cons, slice-empty, sets, sets-eq}
+use lib.Seq.{take-all, drop-append-le, drop-cons, drop-drop, drop-set-lt, getD-drop, take-at, drop-at, slice, slice-cons, slice-empty, sets, sets-eq}
 use borrow.Author.Tests.{lt-ltb, le-ltb, ltb-false, eqb-false}
 use Rattle.hex.specs.Hex.{isDigit, allDigits, valueOf, pairsOf, bytesOf, digitOf, hexOf, fill, padded, decodeOf, encodeOf}
-use Rattle.hex.specs.Steps.{fourOf, nibblesOf, valuesOf}
-use Rattle.hex.proofs.Digits.{or-left, or-right, value-lt}
-use Rattle.hex.proofs.Lanes.{first, second, third, fourth}
+use Rattle.hex.specs.Steps.{nibblesOf}
+use Rattle.hex.proofs.Digits.{and-left, and-right, or-left, or-right}
+use Rattle.hex.proofs.Pair.{digit-lt}
 
--- ---- decoding: the value of each character
+-- ---- decoding: whether all are digits
 module _ (line : List ℕ) (k : ℕ) where
-  pub valued : (out : List ℕ) → k < length line → sets (set out k (valueOf (getD line k 0))) (k + 1) (map valueOf (drop (k + 1) line)) ≡ sets out k (map valueOf (drop k line))
-  valued out h = rw (add-one k, drop-cons line k 0 h)
-
   pub tested : (ok : Bool) → k < length line → (ok && isDigit (getD line k 0)) && allDigits (drop (k + 1) line) ≡ ok && allDigits (drop k line)
   tested ok h = rw (add-one k, drop-cons line k 0 h) (assoc ok (isDigit (getD line k 0)) (allDigits (drop (suc k) line)))
     where
       assoc : (a b c : Bool) → (a && b) && c ≡ a && (b && c)
       assoc true b c = refl
       assoc false b c = refl
-
-  pub all-valued : (out : List ℕ) → length line ≤ k → out ≡ sets out k (map valueOf (drop k line))
-  all-valued out h = rw (drop-of-length-le line h)
 
   pub all-tested : (ok : Bool) → length line ≤ k → ok ≡ ok && allDigits (drop k line)
   all-tested ok h = rw (drop-of-length-le line h) (sym (and-true ok))
@@ -37,52 +31,97 @@ module _ (line : List ℕ) (k : ℕ) where
       and-true true = refl
       and-true false = refl
 
--- ---- decoding: values two by two, eight at a time
+pub each-digit : (line : List ℕ) (k : ℕ) → allDigits line ≡ true → k < length line → isDigit (getD line k 0) ≡ true
+each-digit [] k h l = absurd (none k l)
+  where
+    none : (k : ℕ) → k < 0 → ⊥
+    none k l = omega arith
+each-digit (c ∷ line) zero h l = and-left (isDigit c) (allDigits line) h
+each-digit (c ∷ line) (suc k) h l = each-digit line k (and-right (isDigit c) (allDigits line) h) (omega arith)
+
+-- ---- decoding: characters two by two
 two : (l : List ℕ) (i j : ℕ) → i + 1 < length l → j ≡ i + 2 → drop i l ≡ getD l i 0 ∷ getD l (i + 1) 0 ∷ drop j l
 two l i j h e =
     let h₀ : i < length l = omega arith in
     let f : suc (suc i) ≡ j = omega arith in
     drop-cons l i 0 h₀ ∙ ap (λ (x : List ℕ). getD l i 0 ∷ x) (rw (← add-one i) (drop-cons l (i + 1) 0 h ∙ rw (add-one i, f)))
 
-eight : (l : List ℕ) (i j : ℕ) → i + 8 ≤ length l → j ≡ i + 8
-    → drop i l ≡ getD l i 0 ∷ getD l (i + 1) 0 ∷ getD l (i + 2) 0 ∷ getD l (i + 3) 0 ∷ getD l (i + 4) 0 ∷ getD l (i + 5) 0 ∷ getD l (i + 6) 0 ∷ getD l (i + 7) 0 ∷ drop j l
-eight l i j h e =
-    let e3 : (i + 2) + 1 ≡ i + 3 = omega arith in
-    let e5 : (i + 4) + 1 ≡ i + 5 = omega arith in
-    let e7 : (i + 6) + 1 ≡ i + 7 = omega arith in
-    rw (two l i (i + 2) (omega arith) refl, two l (i + 2) (i + 4) (omega arith) (omega arith), two l (i + 4) (i + 6) (omega arith) (omega arith), two l (i + 6) j (omega arith) (omega arith), e3, e5, e7)
+-- a slice from a place on
+module _ (l : List ℕ) (a k : ℕ) (h : a + k < length l) where
+  abbrev part : List ℕ
+  part = take (length l - a) (drop a l)
 
--- four bytes stored out of what was joined
-pub stored : (vs bytes : List ℕ) (q x : ℕ)
-    → x ≡ 16 * getD vs (8 * q) 0 + getD vs (8 * q + 1) 0 + (16 * getD vs (8 * q + 2) 0 + getD vs (8 * q + 3) 0) * 0x100 + (16 * getD vs (8 * q + 4) 0 + getD vs (8 * q + 5) 0) * 0x1_0000 + (16 * getD vs (8 * q + 6) 0 + getD vs (8 * q + 7) 0) * 0x100_0000
-    → ((k : ℕ) → getD vs k 0 < 16)
-    → set (set (set (set bytes (4 * q) (x % 0x100)) (4 * q + 1) (x / 0x100 % 0x100)) (4 * q + 2) (x / 0x1_0000 % 0x100)) (4 * q + 3) (x / 0x100_0000)
-    ≡ sets bytes (4 * q) (fourOf vs (8 * q))
-stored vs bytes q x e small =
-    let b0 = 16 * getD vs (8 * q) 0 + getD vs (8 * q + 1) 0 in
-    let b1 = 16 * getD vs (8 * q + 2) 0 + getD vs (8 * q + 3) 0 in
-    let b2 = 16 * getD vs (8 * q + 4) 0 + getD vs (8 * q + 5) 0 in
-    let b3 = 16 * getD vs (8 * q + 6) 0 + getD vs (8 * q + 7) 0 in
-    let h0 : b0 < 0x100 = byte-lt _ _ (small (8 * q)) (small (8 * q + 1)) in
-    let h1 : b1 < 0x100 = byte-lt _ _ (small (8 * q + 2)) (small (8 * q + 3)) in
-    let h2 : b2 < 0x100 = byte-lt _ _ (small (8 * q + 4)) (small (8 * q + 5)) in
-    let s1 : 4 * q + 1 ≡ suc (4 * q) = omega arith in
-    let s2 : 4 * q + 2 ≡ suc (suc (4 * q)) = omega arith in
-    let s3 : 4 * q + 3 ≡ suc (suc (suc (4 * q))) = omega arith in
-    rw (first b0 b1 b2 b3 x e h0 h1 h2, second b0 b1 b2 b3 x e h0 h1 h2, third b0 b1 b2 b3 x e h0 h1 h2, fourth b0 b1 b2 b3 x e h0 h1 h2, s1, s2, s3)
+  part-is : part ≡ drop a l
+  part-is = take-all (length l - a) (drop a l) (rw (length-drop a l) (omega arith))
+
+  pub in-part : k < length part
+  in-part = rw (part-is, length-drop a l) (omega arith)
+
+  pub part-at : getD part k 0 ≡ getD l (a + k) 0
+  part-at = rw part-is (getD-drop a l k 0)
+
+-- two digits read side by side
+module _ (line : List ℕ) (i r : ℕ) (all : allDigits line ≡ true) (h : i < length line / 2) where
+  abbrev rest : List ℕ
+  rest = take (length line - 2 * i) (drop (2 * i) line)
+
+  module _ (e : r ≡ getD rest 0 0 + getD rest 1 0 * 0x100) where
+    first-at : getD rest 0 0 ≡ getD line (2 * i) 0
+    first-at = rw (part-at line (2 * i) 0 (omega arith), add-zero (2 * i))
+
+    second-at : getD rest 1 0 ≡ getD line (2 * i + 1) 0
+    second-at = part-at line (2 * i) 1 (omega arith)
+
+    first-digit : isDigit (getD line (2 * i) 0) ≡ true
+    first-digit = each-digit line (2 * i) all (omega arith)
+
+    second-digit : isDigit (getD line (2 * i + 1) 0) ≡ true
+    second-digit = each-digit line (2 * i + 1) all (omega arith)
+
+    pub lower : r % 0x100 ≡ getD line (2 * i) 0
+    lower = halved (getD line (2 * i) 0) (getD line (2 * i + 1) 0) (e ∙ rw (first-at, second-at)) (digit-lt (getD line (2 * i) 0) first-digit)
+      where
+        halved : (a b : ℕ) → r ≡ a + b * 0x100 → a < 80 → r % 0x100 ≡ a
+        halved a b f l = omega arith
+
+    pub upper : r / 0x100 ≡ getD line (2 * i + 1) 0
+    upper = halved (getD line (2 * i) 0) (getD line (2 * i + 1) 0) (e ∙ rw (first-at, second-at)) (digit-lt (getD line (2 * i) 0) first-digit)
+      where
+        halved : (a b : ℕ) → r ≡ a + b * 0x100 → a < 80 → r / 0x100 ≡ b
+        halved a b f l = omega arith
+
+    pub both-digits : (isDigit (r % 0x100) ≡ true) × (isDigit (r / 0x100) ≡ true)
+    both-digits = rw (lower, upper) (first-digit, second-digit)
+
+pub paired : (line bytes : List ℕ) (i b : ℕ) → i < length line / 2 → b ≡ 16 * valueOf (getD line (2 * i) 0) + valueOf (getD line (2 * i + 1) 0)
+    → sets (set bytes i b) (i + 1) (bytesOf (drop (2 * (i + 1)) line)) ≡ sets bytes i (bytesOf (drop (2 * i) line))
+paired line bytes i b h e = rw (two line (2 * i) (2 * (i + 1)) (omega arith) (omega arith), add-one i, e)
+
+pub length-pairs : (vs : List ℕ) → length (pairsOf vs) ≡ length vs / 2
+length-pairs [] = omega arith
+length-pairs (a ∷ []) = omega arith
+length-pairs (a ∷ b ∷ vs) = let h : length (pairsOf vs) ≡ length vs / 2 = length-pairs vs in omega arith
+
+pub length-bytes : (line : List ℕ) → length (bytesOf line) ≡ length line / 2
+length-bytes line = length-pairs (map valueOf line) ∙ rw (length-map line valueOf)
+
+-- no byte is left where fewer than two characters are
+pub all-paired : (line bytes : List ℕ) (i : ℕ) → length line / 2 ≤ i → bytes ≡ sets bytes i (bytesOf (drop (2 * i) line))
+all-paired line bytes i h = rw (empty (bytesOf (drop (2 * i) line)) (omega (arith, length-bytes (drop (2 * i) line), length-drop (2 * i) line)))
   where
-    byte-lt : (a b : ℕ) → a < 16 → b < 16 → 16 * a + b < 0x100
-    byte-lt a b g h = omega arith
+    empty : (xs : List ℕ) → length xs ≡ 0 → xs ≡ []
+    empty [] e = refl
+    empty (x ∷ xs) e = absurd (some (length xs) e)
+      where
+        some : (n : ℕ) → suc n ≡ 0 → ⊥
+        some n e = omega arith
 
-pub paired : (values bytes : List ℕ) (q : ℕ) → length values ≡ 296 → q < 37
-    → sets (sets bytes (4 * q) (fourOf values (8 * q))) (4 * (q + 1)) (pairsOf (drop (8 * (q + 1)) values)) ≡ sets bytes (4 * q) (pairsOf (drop (8 * q) values))
-paired values bytes q e h =
-    let f : 4 * (q + 1) ≡ suc (suc (suc (suc (4 * q)))) = omega arith in
-    rw (eight values (8 * q) (8 * (q + 1)) (omega arith) (omega arith), f)
+-- ---- decoding: zeros first
+pub zeroed : (bytes : List ℕ) (n i : ℕ) → i < n → sets (set bytes i 0) (i + 1) (replicate (n - (i + 1)) 0) ≡ sets bytes i (replicate (n - i) 0)
+zeroed bytes n i h = let e : n - i ≡ suc (n - (i + 1)) = omega arith in rw (e, add-one i)
 
-pub all-paired : (values bytes : List ℕ) (q : ℕ) → length values ≡ 296 → 37 ≤ q → bytes ≡ sets bytes (4 * q) (pairsOf (drop (8 * q) values))
-all-paired values bytes q e h =
-    let k : length values ≤ 8 * q = omega arith in rw (drop-of-length-le values k)
+pub all-zeroed : (bytes : List ℕ) (n i : ℕ) → n ≤ i → bytes ≡ sets bytes i (replicate (n - i) 0)
+all-zeroed bytes n i h = let e : n - i ≡ 0 = omega arith in rw e
 
 -- ---- encoding: the values of the digits
 pub halved : (bytes reply : List ℕ) (i : ℕ) → i < length bytes
@@ -114,11 +153,6 @@ module _ (l : List ℕ) (n : ℕ) (fits : n ≤ length l) where
   all-spelt reply k h g = let e : k ≡ n = omega arith in rw (e, slice-empty n l)
 
 -- ---- lengths, and stores from the first place on
-pub length-pairs : (vs : List ℕ) → 2 * length (pairsOf vs) ≤ length vs
-length-pairs [] = omega arith
-length-pairs (a ∷ []) = omega arith
-length-pairs (a ∷ b ∷ vs) = let h : 2 * length (pairsOf vs) ≤ length vs = length-pairs vs in omega arith
-
 pub length-nibbles : (bytes : List ℕ) → length (nibblesOf bytes) ≡ 2 * length bytes
 length-nibbles [] = refl
 length-nibbles (b ∷ bytes) = let h : length (nibblesOf bytes) ≡ 2 * length bytes = length-nibbles bytes in omega arith
@@ -169,52 +203,32 @@ module _ (bytes lent : List ℕ) (h : length bytes ≤ length lent / 2) where
   encoded reply e = rw (le-ltb (length lent / 2) (length bytes) h, e, shape)
 
 -- ---- the ways out of decoding
-values-lt : (line : List ℕ) (k : ℕ) → getD (map valueOf line) k 0 < 16
-values-lt [] k = omega arith
-values-lt (c ∷ line) zero = value-lt c
-values-lt (c ∷ line) (suc k) = values-lt line k
-
--- zeros behind values
-zeros-lt : (n k : ℕ) → getD (replicate n 0) k 0 < 16
-zeros-lt zero k = omega arith
-zeros-lt (suc n) zero = omega arith
-zeros-lt (suc n) (suc k) = zeros-lt n k
-
-behind-lt : (xs ys : List ℕ) → ((k : ℕ) → getD xs k 0 < 16) → ((k : ℕ) → getD ys k 0 < 16) → (k : ℕ) → getD (xs ++ ys) k 0 < 16
-behind-lt [] ys g h k = h k
-behind-lt (x ∷ xs) ys g h zero = g 0
-behind-lt (x ∷ xs) ys g h (suc k) = behind-lt xs ys (λ i. g (suc i)) h k
-
 drop-zeros : (n m : ℕ) → _≡_ {A = List ℕ} (drop n (replicate m 0)) (replicate (m - n) 0)
 drop-zeros zero m = let e : m - 0 ≡ m = omega arith in rw e
 drop-zeros (suc n) zero = let e : 0 - suc n ≡ 0 = omega arith in rw e
 drop-zeros (suc n) (suc m) = let e : suc m - suc n ≡ m - n = omega arith in rw e (drop-zeros n m)
 
-pairs-append : (xs ys : List ℕ) → length xs % 2 ≡ 0 → pairsOf (xs ++ ys) ≡ pairsOf xs ++ pairsOf ys
-pairs-append [] ys h = refl
-pairs-append (a ∷ []) ys h = absurd (odd h)
-  where
-    odd : 1 % 2 ≡ 0 → ⊥
-    odd e = omega arith
-pairs-append (a ∷ b ∷ xs) ys h = ap (λ (r : List ℕ). (16 * a + b) ∷ r) (pairs-append xs ys (less (length xs) h))
-  where
-    less : (n : ℕ) → suc (suc n) % 2 ≡ 0 → n % 2 ≡ 0
-    less n e = omega arith
+append-assoc : (xs ys zs : List ℕ) → (xs ++ ys) ++ zs ≡ xs ++ (ys ++ zs)
+append-assoc [] ys zs = refl
+append-assoc (x ∷ xs) ys zs = ap (λ (r : List ℕ). x ∷ r) (append-assoc xs ys zs)
 
-pairs-zeros : (m : ℕ) → pairsOf (replicate (2 * m) 0) ≡ replicate m 0
-pairs-zeros zero = refl
-pairs-zeros (suc m) = let e : 2 * suc m ≡ suc (suc (2 * m)) = omega arith in rw e (ap (λ (r : List ℕ). 0 ∷ r) (pairs-zeros m))
+-- bytes over zeros are the bytes padded
+module _ (n : ℕ) (lent : List ℕ) where
+  abbrev zeroes : List ℕ
+  zeroes = replicate n 0
 
-length-half : (vs : List ℕ) → length vs % 2 ≡ 0 → length vs ≡ 2 * length (pairsOf vs)
-length-half [] h = refl
-length-half (a ∷ []) h = absurd (odd h)
-  where
-    odd : 1 % 2 ≡ 0 → ⊥
-    odd e = omega arith
-length-half (a ∷ b ∷ vs) h = let g : length vs ≡ 2 * length (pairsOf vs) = length-half vs (less (length vs) h) in omega arith
-  where
-    less : (n : ℕ) → suc (suc n) % 2 ≡ 0 → n % 2 ≡ 0
-    less n e = omega arith
+  long : length zeroes ≡ n
+  long = length-replicate {A = ℕ} n 0
+
+  room : n ≤ length (fill zeroes lent)
+  room = rw (length-append zeroes (drop (length zeroes) lent), long) (omega arith)
+
+  over-zeros : (xs : List ℕ) → length xs ≤ n → fill xs (fill zeroes lent) ≡ fill (padded n xs) lent
+  over-zeros xs h =
+      let e : length xs + (n - length xs) ≡ n = omega arith in
+      rw
+      (drop-append-le (length xs) zeroes (drop (length zeroes) lent) (rw long h), drop-zeros (length xs) n, long, length-append xs (replicate (n - length xs) 0), length-replicate {A = ℕ} (n - length xs) 0, e)
+      (sym (append-assoc xs (replicate (n - length xs) 0) (drop n lent)))
 
 module _ (line lent : List ℕ) where
   pub none-decoded : eqb (length line % 2) 1 || ltb 296 (length line) || ltb (length lent) 148 ≡ true → record { ok = false; left = lent } ≡ decodeOf line lent
@@ -222,39 +236,15 @@ module _ (line lent : List ℕ) where
   none-decoded h = rw h
 
   module _ (h : eqb (length line % 2) 1 || ltb 296 (length line) || ltb (length lent) 148 ≡ false) where
-    even : length line % 2 ≡ 0
-    even = other (length line) (eqb-false (length line % 2) 1 (or-left (eqb (length line % 2) 1) (ltb 296 (length line)) (or-left (eqb (length line % 2) 1 || ltb 296 (length line)) (ltb (length lent) 148) h)))
-      where
-        other : (n : ℕ) → (n % 2 ≡ 1 → ⊥) → n % 2 ≡ 0
-        other n o = omega (arith, o)
-
     pub short : length line ≤ 296
     short = ltb-false 296 (length line) (or-right (eqb (length line % 2) 1) (ltb 296 (length line)) (or-left (eqb (length line % 2) 1 || ltb 296 (length line)) (ltb (length lent) 148) h))
 
     pub roomy : 148 ≤ length lent
     roomy = ltb-false (length lent) 148 (or-right (eqb (length line % 2) 1 || ltb 296 (length line)) (ltb (length lent) 148) h)
 
-    abbrev each : List ℕ
-    each = fill (map valueOf line) (replicate 296 0)
+    pub fits : length line / 2 ≤ length (fill (replicate 148 0) lent)
+    fits = omega (arith, short, room 148 lent)
 
-    pub each-long : length each ≡ 296
-    each-long =
-        rw (length-append (map valueOf line) (drop (length (map valueOf line)) (replicate 296 0)), drop-zeros (length (map valueOf line)) 296, length-replicate {A = ℕ} (296 - length (map valueOf line)) 0, length-map line valueOf)
-        (omega (arith, short))
-
-    pub each-lt : (k : ℕ) → getD each k 0 < 16
-    each-lt = rw (drop-zeros (length (map valueOf line)) 296) (behind-lt (map valueOf line) (replicate (296 - length (map valueOf line)) 0) (values-lt line) (zeros-lt (296 - length (map valueOf line))))
-
-    pairs-are : pairsOf each ≡ padded 148 (bytesOf line)
-    pairs-are =
-        let vs = map valueOf line in
-        let e : length vs ≡ length line = length-map line valueOf in
-        let ev : length vs % 2 ≡ 0 = rw e even in
-        let f : 296 - length vs ≡ 2 * (148 - length (pairsOf vs)) = omega (arith, length-half vs ev, short) in
-        rw (drop-zeros (length vs) 296, pairs-append vs (replicate (296 - length vs) 0) ev, f, pairs-zeros (148 - length (pairsOf vs)))
-
-    pub decoded : (ok : Bool) (values bytes : List ℕ) → record { ok = ok; left = values } ≡ valuesOf line (replicate 296 0) → bytes ≡ fill (pairsOf values) lent
-        → record { ok = ok; left = bytes } ≡ decodeOf line lent
+    pub decoded : (ok : Bool) (bytes : List ℕ) → ok ≡ allDigits line → bytes ≡ fill (bytesOf line) (fill (replicate 148 0) lent) → record { ok = ok; left = bytes } ≡ decodeOf line lent
     unfolding decodeOf
-    decoded ok values bytes e f =
-        rw (h, f, ap (λ x. x .left) e, ap (λ x. x .ok) e, pairs-are)
+    decoded ok bytes e f = rw (h, e, f, over-zeros 148 lent (bytesOf line) (omega (arith, length-bytes line, short)))

@@ -1,20 +1,13 @@
 // Characters to bytes and back: digits 0-9 and A-F, two a byte, the higher half first.
 // No table: each digit is worked out, so that the loops run on many characters at once.
 ghost use mathlib.Core.Path.{_≡_};
-ghost use mathlib.Core.Bool.{cond};
+ghost use mathlib.Core.Bool.{true, cond};
 ghost use mathlib.Core.List.{map};
-ghost use Prim.Native.Nat.{ℕ, _+_, _*_, _≤_, _<_};
+ghost use Prim.Native.Nat.{ℕ, _+_, _*_, _/_, _%_, _≤_, _<_};
 ghost use lib.Dec.{ltb};
-ghost use lib.ListN.{length, getD, take};
-ghost use lib.Seq.{sets};
-ghost use Rattle.hex.specs.Hex.{Filled, isDigit, valueOf, pairsOf, digitOf, fill, decodeOf, encodeOf};
-ghost use Rattle.hex.specs.Steps.{valuesOf, lowFirst, evenBytes, fourOf, nibblesOf};
-
-fn is_digit(c: u8) -> bool
-    ensures { λ r. ⌜ r ≡ isDigit c ⌝ }
-{
-    ((48 <= c) & (c <= 57)) | ((65 <= c) & (c <= 70))
-}
+ghost use lib.ListN.{length, getD, take, replicate};
+ghost use Rattle.hex.specs.Hex.{Filled, isDigit, allDigits, valueOf, bytesOf, digitOf, fill, decodeOf, encodeOf};
+ghost use Rattle.hex.specs.Steps.{nibblesOf};
 
 fn value(c: u8) -> u8
     ensures { λ r. ⌜ r ≡ valueOf c ⌝ }
@@ -28,92 +21,91 @@ fn value(c: u8) -> u8
     0
 }
 
-// The value of each character, and whether all are digits.
-fn values(line: &[u8], out: &mut [u8; 296]) -> bool
-    requires { ⌜ length (now line) ≤ 296 ⌝ }
-    requires { ⌜ length (now out) ≡ 296 ⌝ }
-    ensures { λ r. ⌜ record { ok = r; left = now (out .exit) } ≡ valuesOf (now (line .entry)) (now (out .entry)) ⌝ }
+// The sum, less 256 where it is as much.
+fn sum(x: u8, y: u8) -> u8
+    ensures { λ r. ⌜ r ≡ (x + y) % 0x100 ⌝ }
 {
-    let mut ok = true;
+    (((x as u16) + (y as u16)) % 0x100) as u8
+}
+
+fn larger(x: u8, y: u8) -> u8
+    ensures { λ r. ⌜ r ≡ cond (ltb x y) y x ⌝ }
+{
+    if x < y { y } else { x }
+}
+
+// Less 48, round 256, a digit is at most 22, and less 65 at most 248; no other character is both. So the largest of each tells.
+fn all_digits(line: &[u8]) -> bool
+    ensures { λ r. ⌜ r ≡ allDigits (now (line .entry)) ⌝ }
+{
+    let mut less_48 = 0;
+    let mut less_65 = 0;
     for k in 0..line.len() {
         let c = line[k];
-        ok = ok & is_digit(c);
-        out[k] = value(c);
+        less_48 = larger(less_48, sum(c, 208));
+        less_65 = larger(less_65, sum(c, 191));
     }
-    ok
+    (less_48 <= 22) & (less_65 <= 248)
 }
 
-fn word(v0: u8, v1: u8, v2: u8, v3: u8, v4: u8, v5: u8, v6: u8, v7: u8) -> u64
-    ensures { λ r. ⌜ r ≡ lowFirst v0 v1 v2 v3 v4 v5 v6 v7 ⌝ }
+// Two characters in one number, the first in its lower half. The compiler reads both in one step where they are at 0 and 1 of
+// a part, and where the number is made before any other sum: hence a function of its own.
+fn side_by_side(first: u8, second: u8) -> u16
+    ensures { λ r. ⌜ r ≡ first + second * 0x100 ⌝ }
 {
-    (v0 as u64)
-        + (v1 as u64) * 0x100
-        + (v2 as u64) * 0x1_0000
-        + (v3 as u64) * 0x100_0000
-        + (v4 as u64) * 0x1_0000_0000
-        + (v5 as u64) * 0x100_0000_0000
-        + (v6 as u64) * 0x1_0000_0000_0000
-        + (v7 as u64) * 0x100_0000_0000_0000
+    (first as u16) + (second as u16) * 0x100
 }
 
-fn even_bytes(y: u64) -> u32
-    ensures { λ r. ⌜ r ≡ evenBytes y ⌝ }
+// The byte of two digits side by side. Less 48, a letter has 16 in it and a decimal has not; a letter is then 7 above its value.
+fn byte(digits: u16) -> u8
+    requires { ⌜ isDigit (digits % 0x100) ≡ true ⌝ }
+    requires { ⌜ isDigit (digits / 0x100) ≡ true ⌝ }
+    ensures { λ r. ⌜ r ≡ 16 * valueOf (digits % 0x100) + valueOf (digits / 0x100) ⌝ }
 {
-    (y % 0x100
-        + y / 0x1_0000 % 0x100 * 0x100
-        + y / 0x1_0000_0000 % 0x100 * 0x1_0000
-        + y / 0x1_0000_0000_0000 % 0x100 * 0x100_0000) as u32
+    let both = digits - 0x3030;
+    let letters = both / 0x10 % 2 + both / 0x1000 % 2 * 0x100;
+    let values = both - 7 * letters;
+    ((values + values % 0x10 * 0x1000) / 0x100) as u8
 }
 
-// Four bytes of eight values, the first lowest: in 16 w + w / 256, byte i holds 16 times value i and value i + 1.
-fn join(v0: u8, v1: u8, v2: u8, v3: u8, v4: u8, v5: u8, v6: u8, v7: u8) -> u32
-    requires { ⌜ (v0 < 16) × (v1 < 16) × (v2 < 16) × (v3 < 16) × (v4 < 16) × (v5 < 16) × (v6 < 16) × (v7 < 16) ⌝ }
-    ensures { λ r. ⌜ r ≡ 16 * v0 + v1 + (16 * v2 + v3) * 0x100 + (16 * v4 + v5) * 0x1_0000 + (16 * v6 + v7) * 0x100_0000 ⌝ }
+// The bytes of digits, into the first places.
+fn pairs(line: &[u8], bytes: &mut [u8])
+    requires { ⌜ allDigits (now line) ≡ true ⌝ }
+    requires { ⌜ length (now line) / 2 ≤ length (now bytes) ⌝ }
+    ensures { λ _. ⌜ now (bytes .exit) ≡ fill (bytesOf (now (line .entry))) (now (bytes .entry)) ⌝ }
 {
-    let w = word(v0, v1, v2, v3, v4, v5, v6, v7);
-    even_bytes(16 * w + w / 0x100)
-}
-
-// Four bytes, from place 4 q on.
-fn four(values: &[u8; 296], q: usize, bytes: &mut [u8])
-    requires { ⌜ q < 37 ⌝ }
-    requires { ⌜ 148 ≤ length (now bytes) ⌝ }
-    requires { ⌜ ((k : ℕ) → getD (now values) k 0 < 16) ⌝ }
-    ensures { λ _. ⌜ now (bytes .exit) ≡ sets (now (bytes .entry)) (4 * q) (fourOf (now (values .entry)) (8 * q)) ⌝ }
-{
-    let at = 8 * q;
-    let x = join(
-        values[at],
-        values[at + 1],
-        values[at + 2],
-        values[at + 3],
-        values[at + 4],
-        values[at + 5],
-        values[at + 6],
-        values[at + 7],
-    );
-    bytes[4 * q] = (x % 0x100) as u8;
-    bytes[4 * q + 1] = (x / 0x100 % 0x100) as u8;
-    bytes[4 * q + 2] = (x / 0x1_0000 % 0x100) as u8;
-    bytes[4 * q + 3] = (x / 0x100_0000) as u8;
-}
-
-fn pairs(values: &[u8; 296], bytes: &mut [u8])
-    requires { ⌜ length (now values) ≡ 296 ⌝ }
-    requires { ⌜ 148 ≤ length (now bytes) ⌝ }
-    requires { ⌜ ((k : ℕ) → getD (now values) k 0 < 16) ⌝ }
-    ensures { λ _. ⌜ now (bytes .exit) ≡ fill (pairsOf (now (values .entry))) (now (bytes .entry)) ⌝ }
-{
-    for q in 0..37 {
-        four(values, q, bytes);
+    for i in 0..line.len() / 2 {
+        let at = 2 * i;
+        let part = &line[at..];
+        bytes[i] = byte(side_by_side(part[0], part[1]));
     }
 }
 
-// What lies between the digits 9 and A, from A on.
+// The bytes of any characters, into the first places. No line that is answered comes here.
+fn any_pairs(line: &[u8], bytes: &mut [u8])
+    requires { ⌜ length (now line) / 2 ≤ length (now bytes) ⌝ }
+    ensures { λ _. ⌜ now (bytes .exit) ≡ fill (bytesOf (now (line .entry))) (now (bytes .entry)) ⌝ }
+{
+    for i in 0..line.len() / 2 {
+        bytes[i] = 16 * value(line[2 * i]) + value(line[2 * i + 1]);
+    }
+}
+
+fn zeros(bytes: &mut [u8], n: usize)
+    requires { ⌜ n ≤ length (now bytes) ⌝ }
+    ensures { λ _. ⌜ now (bytes .exit) ≡ fill (replicate n 0) (now (bytes .entry)) ⌝ }
+{
+    for i in 0..n {
+        bytes[i] = 0;
+    }
+}
+
+// What lies between the digits 9 and A, from A on. The test is signed: the machine has it for many bytes in one step, the other in two.
 fn gap(n: u8) -> u8
+    requires { ⌜ n < 16 ⌝ }
     ensures { λ r. ⌜ r ≡ cond (ltb n 10) 0 7 ⌝ }
 {
-    if n < 10 { 0 } else { 7 }
+    if (n as i8) < 10 { 0 } else { 7 }
 }
 
 fn digit(n: u8) -> u8
@@ -130,10 +122,13 @@ pub fn decode(line: &[u8], bytes: &mut [u8]) -> bool
     if (n % 2 == 1) | (296 < n) | (bytes.len() < 148) {
         return false;
     }
-    let mut each = [0u8; 296];
-    let ok = values(line, &mut each);
-    pairs(&each, bytes);
-    ok
+    zeros(bytes, 148);
+    if all_digits(line) {
+        pairs(line, bytes);
+        return true;
+    }
+    any_pairs(line, bytes);
+    false
 }
 
 // The values of the bytes' digits, into the first places.
