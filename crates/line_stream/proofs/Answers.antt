@@ -1,12 +1,11 @@
--- The length of a reply, by the line's first two characters; a line's output from its answer. Assumes nothing.
-use mathlib.Core.Path.{_≡_, refl, ap}
+-- The length of a reply, by the line's first two characters; the most characters of an answer. Assumes nothing.
+use mathlib.Core.Path.{_≡_, refl}
 use mathlib.Core.Bool.{Bool, true, false, cond, _&&_}
-use mathlib.Core.List.{List, [], _∷_, _++_}
+use mathlib.Core.List.{List, [], _∷_}
 use Prim.Native.Nat.{ℕ, suc, _+_, _≤_, _<_, min}
 use native.Mathlib.Omega.{arith}
 use lib.Dec.{eqb}
 use lib.ListN.{length, take, replicate, length-append, length-take}
-use borrow.Author.Tests.{ne-eqb}
 use Rattle.lines.specs.Answer.{Answer, answerOf}
 use Rattle.line_stream.specs.Output.{isQuartics, replyLength, twoDigits, textOf, lineOutput}
 
@@ -27,21 +26,6 @@ quartics line h = rw h
 
 pub others : (line : List ℕ) → isQuartics line ≡ false → 728 ≡ replyLength line
 others line h = rw h
-
--- ---- a line's output
-abbrev line-of : List ℕ → Answer → List ℕ
-line-of line a = textOf line a ++ (10 ∷ [])
-
-module _ (line : List ℕ) (n : ℕ) (places : List ℕ) (e : record { number = n; places = places } ≡ answerOf line (replicate 728 0)) where
-  pub answered : textOf line (record { number = n; places = places }) ++ (10 ∷ []) ≡ lineOutput line
-  unfolding lineOutput
-  answered = ap (line-of line) e
-
-  pub replied : n ≡ 0 → (m : ℕ) → m ≡ replyLength line → take m places ++ (10 ∷ []) ≡ lineOutput line
-  replied z m em = rw (em, ← answered, z)
-
-  pub refused : (n ≡ 0 → ⊥) → twoDigits n ++ (10 ∷ []) ≡ lineOutput line
-  refused z = rw (← answered, ne-eqb n 0 z)
 
 pub reply-most : (line : List ℕ) → replyLength line ≤ 728
 reply-most line = by (isQuartics line)

@@ -1,6 +1,8 @@
 pub mod Copies
 pub mod Feeds
 pub mod Answers
+pub mod KindLength
+pub mod Lent
 pub mod Keeping
 pub mod Streaming
 pub mod FirstQuestion

@@ -48,11 +48,11 @@ pub fn write_line(line: &[u8], out: &mut [u8], at: usize) -> usize
     requires { ⌜ at + 729 ≤ length (now out) ⌝ }
     ensures { λ r. ⌜ Put (now (out .entry)) at (lineOutput (now (line .entry))) r (now (out .exit)) ⌝ }
 {
-    let mut reply = [0u8; 728];
-    let number = lines::answer_line(line, &mut reply);
+    let number = lines::answer_line(line, &mut out[at..]);
     if number == 0 {
         let n = reply_length(line);
-        return put_line(&reply[..n], out, at);
+        out[at + n] = b'\n';
+        return at + n + 1;
     }
     let digits = two_digits(number);
     put_line(&digits, out, at)
