@@ -22,7 +22,7 @@ library=${LIBRARY:-$root/target/staticlib/liblines.a}
 out=$root/target/bench
 
 [ -f "$oracle/libcases.rlib" ] || "$root/oracle/build.sh"
-[ -f "$library" ] || (cd "$root" && rt staticlib lines)
+[ -f "$library" ] || (cd "$root" && rt staticlib lines) >&2
 mkdir -p "$out"
 rustc --edition 2021 -O -C codegen-units=1 --crate-name compare \
     -L dependency="$oracle" -L dependency="$oracle/traced" -L dependency="$oracle/plain" \

@@ -14,7 +14,7 @@ library=${LIBRARY:-$root/target/staticlib/liblines.a}
 out=$root/target/hosts
 lines=${1:-$root/samples/moves.txt}
 
-[ -f "$library" ] || (cd "$root" && rt staticlib lines)
+[ -f "$library" ] || (cd "$root" && rt staticlib lines) >&2
 mkdir -p "$out"
 cc -std=gnu11 -O2 -Wall -Wextra -I "$root/include" "$here/host.c" "$library" -o "$out/c_host"
 if [ $# -ge 2 ]; then

@@ -15,7 +15,7 @@ library=${LIBRARY:-$root/target/staticlib/liblines.a}
 out=$root/target/hosts
 lines=${1:-$root/samples/moves.txt}
 
-[ -f "$library" ] || (cd "$root" && rt staticlib lines)
+[ -f "$library" ] || (cd "$root" && rt staticlib lines) >&2
 mkdir -p "$out"
 cc -std=gnu11 -O1 -g -Wall -Wextra -fsanitize=address,undefined -fno-sanitize-recover=all \
     -I "$root/include" "$here/sizes.c" "$library" -o "$out/sizes_sanitized"

@@ -12,7 +12,7 @@ library=${LIBRARY:-$root/target/staticlib/liblines.a}
 out=$root/target/hosts
 lines=${1:-$root/samples/moves.txt}
 
-[ -f "$library" ] || (cd "$root" && rt staticlib lines)
+[ -f "$library" ] || (cd "$root" && rt staticlib lines) >&2
 mkdir -p "$out"
 rustc --edition 2021 -O --crate-name rust_host -L native="$(dirname "$library")" \
     "$here/host.rs" -o "$out/rust_host"
