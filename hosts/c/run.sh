@@ -8,14 +8,7 @@
 # archive than target/staticlib/liblines.a.
 set -eu
 
-here=$(cd "$(dirname "$0")" && pwd)
-root=$(dirname "$(dirname "$here")")
-library=${LIBRARY:-$root/target/staticlib/liblines.a}
-out=$root/target/hosts
-lines=${1:-$root/samples/moves.txt}
-
-[ -f "$library" ] || (cd "$root" && rt staticlib lines) >&2
-mkdir -p "$out"
+. "$(dirname "$0")/../library.sh"
 cc -std=gnu11 -O2 -Wall -Wextra -I "$root/include" "$here/host.c" "$library" -o "$out/c_host"
 if [ $# -ge 2 ]; then
     "$out/c_host" < "$lines" | cmp - "$2"

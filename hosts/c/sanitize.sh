@@ -9,14 +9,7 @@
 # that it lends; valgrind watches the library's own code as well.
 set -eu
 
-here=$(cd "$(dirname "$0")" && pwd)
-root=$(dirname "$(dirname "$here")")
-library=${LIBRARY:-$root/target/staticlib/liblines.a}
-out=$root/target/hosts
-lines=${1:-$root/samples/moves.txt}
-
-[ -f "$library" ] || (cd "$root" && rt staticlib lines) >&2
-mkdir -p "$out"
+. "$(dirname "$0")/../library.sh"
 cc -std=gnu11 -O1 -g -Wall -Wextra -fsanitize=address,undefined -fno-sanitize-recover=all \
     -I "$root/include" "$here/sizes.c" "$library" -o "$out/sizes_sanitized"
 "$out/sizes_sanitized" < "$lines"

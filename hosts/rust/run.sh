@@ -6,14 +6,7 @@
 # As hosts/c/run.sh.
 set -eu
 
-here=$(cd "$(dirname "$0")" && pwd)
-root=$(dirname "$(dirname "$here")")
-library=${LIBRARY:-$root/target/staticlib/liblines.a}
-out=$root/target/hosts
-lines=${1:-$root/samples/moves.txt}
-
-[ -f "$library" ] || (cd "$root" && rt staticlib lines) >&2
-mkdir -p "$out"
+. "$(dirname "$0")/../library.sh"
 rustc --edition 2021 -O --crate-name rust_host -L native="$(dirname "$library")" \
     "$here/host.rs" -o "$out/rust_host"
 if [ $# -ge 2 ]; then

@@ -21,31 +21,13 @@ use Rattle.line_frame.specs.Numbers.{shapeNumbersOf, rootAnswerOf, firstAnswerO
 use Rattle.line_reply.specs.Reply.{replyBytesOf}
 use Rattle.lines.specs.ShapeLine.{shapeAt, shapeLineOf}
 use Rattle.line_questions.specs.Questions.{Question, ask, countFits, isKind, lengthFits, bytesFit, numbersFit, countsFit, placesFit, firstNo, frameQuestions, questions}
+use Rattle.lines.proofs.Entry.{passed, numbered}
 use Rattle.lines.specs.Answer.{replyOf, answerOf}
 use Rattle.line_arrives.specs.LineArrives.{AsksShape, moveIn}
 use Rattle.line_arrives.proofs.Characters.{bytes-first}
 use Rattle.line_places.proofs.Bytes.{reply-bytes}
 
 -- ---- no question got a no
-passed : (q : Question) (qs : List Question) → (q .number ≡ 0 → ⊥) → firstNo (q ∷ qs) ≡ 0 → (q .yes ≡ true) × (firstNo qs ≡ 0)
-passed q qs n e = by (q .yes) e
-  where
-    by : (b : Bool) → cond b (firstNo qs) (q .number) ≡ 0 → (b ≡ true) × (firstNo qs ≡ 0)
-    by true e = (refl, e)
-    by false e = absurd (n e)
-
--- the sixth question of a frame
-sixth : (at : Frame) (n p : ℕ) → firstNo (frameQuestions at n p) ≡ 0 → numbersFit at ≡ true
-sixth at n p h =
-    let from7 = ask 7 (countsFit at) ∷ ask 8 (placesFit at p) ∷ [] in
-    let from6 = ask 6 (numbersFit at) ∷ from7 in
-    let from5 = ask 5 (bytesFit at) ∷ from6 in
-    let from4 = ask 4 (lengthFits n at) ∷ from5 in
-    let h4 = passed (ask 3 (isKind at)) from4 (λ e. omega arith) h .1 in
-    let h5 = passed (ask 4 (lengthFits n at)) from5 (λ e. omega arith) h4 .1 in
-    let h6 = passed (ask 5 (bytesFit at)) from6 (λ e. omega arith) h5 .1 in
-    passed (ask 6 (numbersFit at)) from7 (λ e. omega arith) h6 .0
-
 asked-frame : (line : List ℕ) (p : ℕ) → firstNo (questions line p) ≡ 0 → firstNo (frameQuestions (byteAt (bytesOf line)) (length (bytesOf line)) p) ≡ 0
 asked-frame line p h =
     let from3 = frameQuestions (byteAt (bytesOf line)) (length (bytesOf line)) p in
@@ -122,7 +104,7 @@ module _ (line lent : List ℕ) (zero : answerOf line lent .number ≡ 0) (k : A
   none = zero
 
   pub numbers-are : Numbers (moveIn line)
-  numbers-are = twelve line (twelve-tested at (k .0) (k .1) (sixth at (length (bytesOf line)) (length lent) (asked-frame line (length lent) none)))
+  numbers-are = twelve line (twelve-tested at (k .0) (k .1) (numbered at (length (bytesOf line)) (length lent) (asked-frame line (length lent) none)))
 
   -- the places after the reply
   abbrev pub rest : List ℕ

@@ -15,6 +15,7 @@ use Rattle.profile.specs.Check.{labelsOf}
 use Rattle.profile.specs.declared.Profile.{Profile}
 use Rattle.profile.specs.declared.Checked.{Checked}
 use Rattle.line_frame.specs.Frame.{byteAt, wordAt, numberAt}
+use Rattle.line_reply.proofs.Rows.{length-numbers}
 use Rattle.line_reply.specs.Reply.{numbersBytes, headOf, rowsOf, replyBytesOf}
 
 -- ---- one number among bytes
@@ -50,10 +51,6 @@ row-back before n e (x ∷ xs) after (suc i) l f =
     moved : before ++ numberBytes x ++ (numbersBytes xs ++ after) ≡ before ++ (numberBytes x ++ numbersBytes xs ++ after)
     moved = append-assoc before (numberBytes x) (numbersBytes xs ++ after) ∙ ap (λ (r : List ℕ). before ++ r) (sym (append-assoc (numberBytes x) (numbersBytes xs) after))
 
-row-length : (xs : List Float) → length (numbersBytes xs) ≡ 8 * length xs
-row-length [] = refl
-row-length (x ∷ xs) = let h = row-length xs in omega arith
-
 -- ---- the reply
 module _ (h t s j a v p rest : List ℕ) where
   -- six rows after a head, seen from the first and from the third
@@ -78,7 +75,7 @@ module _ (h : List ℕ) (t s j a v p : List Float) (rest : List ℕ) (four : len
   before-third e g =
       length-append (h ++ numbersBytes t) (numbersBytes s)
       ∙ ap (λ (k : ℕ). k + length (numbersBytes s)) (length-append h (numbersBytes t))
-      ∙ rw (four, row-length t, row-length s, e, g)
+      ∙ rw (four, length-numbers t, length-numbers s, e, g)
 
   third-row : length t ≡ 7 → length s ≡ 7 → (i : ℕ) → i < length j → T (fits binary64 (getD j i nan)) → numberAt (byteAt all) (116 + 8 * i) ≡ getD j i nan
   third-row e g i l f =

@@ -8,7 +8,8 @@ use native.Mathlib.Omega.{arith}
 use lib.ListN.{length, take, drop, length-append, length-drop}
 use lib.Seq.{length-take-le}
 use borrow.Author.Tests.{le-leb}
-use Rattle.line_stream.specs.Stream.{State, step, streamFrom, streamOf, fill, Fills, Streams}
+use Rattle.hex.specs.Hex.{fill}
+use Rattle.line_stream.specs.Stream.{State, step, streamFrom, streamOf, Fills, Streams}
 use Rattle.line_stream.proofs.Streaming.{state}
 use Rattle.line_stream.proofs.Whole.{Takes, takes, step-used}
 

@@ -7,7 +7,7 @@ use native.Mathlib.Numerals.{add-one}
 use native.Mathlib.Omega.{arith}
 use lib.ListN.{length, getD, take, drop, set, length-append, drop-of-length-le}
 use lib.Seq.{drop-cons, sets, sets-eq, take-at, drop-at, length-take-le}
-use Rattle.line_stream.specs.Stream.{Put, fill}
+use Rattle.line_stream.specs.Stream.{Put}
 
 -- ---- the loop of `copy`: what is still to be stored from here is the whole from the start
 pub none-copied : (text out : List ℕ) (at : ℕ) → sets out (at + 0) (drop 0 text) ≡ sets out at text
@@ -58,7 +58,3 @@ module _ (out text : List ℕ) (at : ℕ) (h : at + length text ≤ length out) 
   pub drop-sets : drop (at + length text) (sets out at text) ≡ drop (at + length text) out
   unfolding before
   drop-sets = rw (sets-eq text out at h) (drop-at before (drop (at + length text) out) (at + length text) length-before)
-
-pub sets-fill : (xs lent : List ℕ) → length xs ≤ length lent → sets lent 0 xs ≡ fill xs lent
-sets-fill xs lent h =
-    let h₀ : 0 + length xs ≤ length lent = omega arith in sets-eq xs lent 0 h₀ ∙ rw (zero-add (length xs))

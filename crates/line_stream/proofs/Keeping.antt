@@ -7,7 +7,8 @@ use lib.ListN.{length, take, length-take}
 use lib.Seq.{sets, length-sets, length-take-le, take-append-add, take-all}
 use Rattle.line_stream.specs.Output.{lineOutput}
 use Rattle.line_stream.specs.Stream.{cut, lastOf, Put, Fills, Keeps}
-use Rattle.line_stream.proofs.Copies.{take-sets, sets-fill}
+use Rattle.hex.proofs.Turns.{sets-fill}
+use Rattle.line_stream.proofs.Copies.{take-sets}
 use Rattle.line_stream.proofs.Answers.{output-most}
 
 -- a list is taken whole where it is shorter

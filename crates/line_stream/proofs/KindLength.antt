@@ -8,17 +8,10 @@ use lib.Dec.{eqb, lit≤}
 use borrow.Author.Tests.{leb-true}
 use Rattle.hex.specs.Hex.{isDecimal, isLetter, isDigit, allDigits, valueOf}
 use Rattle.line_questions.specs.Kinds.{replyPlaces}
+use Rattle.hex.proofs.Digits.{and-left, and-right}
 use Rattle.line_places.specs.Exactly.{kindOf}
 use Rattle.line_stream.specs.Output.{replyLength}
 use Rattle.line_stream.proofs.Answers.{short}
-
-and-left : (a b : Bool) → a && b ≡ true → a ≡ true
-and-left true b h = refl
-and-left false b h = h
-
-and-right : (a b : Bool) → a && b ≡ true → b ≡ true
-and-right true b h = h
-and-right false b h = absurd (true≢false (sym h))
 
 -- a digit of a value up to 7 is a decimal one
 decimal : (c : ℕ) → isDigit c ≡ true → valueOf c ≤ 7 → c ≡ 48 + valueOf c

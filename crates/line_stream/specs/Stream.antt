@@ -4,8 +4,9 @@ use mathlib.Core.List.{List, [], _∷_, _++_}
 use mathlib.Core.Path.{_≡_}
 use Prim.Native.Nat.{ℕ, zero, suc, _+_}
 use lib.Dec.{eqb, leb}
-use lib.ListN.{length, take, drop}
+use lib.ListN.{length, take}
 use lib.Seq.{sets}
+use Rattle.hex.specs.Hex.{fill}
 use Rattle.line_stream.specs.Output.{lineOutput, outputs, lastLines}
 
 -- how many characters of the input were taken, the first characters of the line that has begun, and what was written
@@ -47,10 +48,6 @@ noFeed (suc n) (c ∷ input) = not (eqb c 10) && noFeed n input
 -- what is written where the input ends
 abbrev pub lastOf : List ℕ → List ℕ
 lastOf kept = outputs (lastLines kept)
-
--- lent places, of which the first now hold xs
-abbrev pub fill : List ℕ → List ℕ → List ℕ
-fill xs lent = xs ++ drop (length xs) lent
 
 -- a text stored from one place on, and where it ends
 pub record Put (lent : List ℕ) (at : ℕ) (text : List ℕ) (end : ℕ) (out : List ℕ) : Type 0 where

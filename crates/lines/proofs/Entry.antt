@@ -8,6 +8,7 @@ use lib.Dec.{eqb, leb, ltb}
 use lib.ListN.{length, getD, drop, replicate, length-replicate}
 use lib.Seq.{getD-drop}
 use borrow.Author.Tests.{eq-eqb, ne-eqb, le-ltb, eqb-true, leb-true}
+use Rattle.hex.proofs.Digits.{and-left, and-right}
 use Rattle.hex.specs.Hex.{Filled, allDigits, bytesOf, hexOf, fill, padded, decodeOf}
 use Rattle.line_frame.specs.Frame.{Frame, byteAt}
 use Rattle.line_questions.specs.Questions.{Question, ask, countFits, isKind, lengthFits, bytesFit, numbersFit, countsFit, placesFit, firstNo, frameQuestions}
@@ -32,14 +33,6 @@ frame-at xs n =
     ∙ behind xs zs i (zeros-at (n - length xs)))
 
 -- ---- the count of characters
-and-left : (a b : Bool) → a && b ≡ true → a ≡ true
-and-left true b h = refl
-and-left false b h = h
-
-and-right : (a b : Bool) → a && b ≡ true → b ≡ true
-and-right true b h = h
-and-right false b h = absurd (true≢false (sym h))
-
 module _ (n : ℕ) (h : countFits n ≡ true) where
   even : n % 2 ≡ 0
   even = eqb-true (n % 2) 0 (and-left (eqb (n % 2) 0) (leb 2 n) (and-left (eqb (n % 2) 0 && leb 2 n) (leb n 296) h))
@@ -94,8 +87,8 @@ module _ (line lent : List ℕ) where
       unfolding answerOf
       replied z reply er = rw (h, sym (ap (λ x. x .ok) decoded) ∙ k, ← asked, z, er, frame-is)
 
--- all questions of a frame answered yes: its kind is known, and the places are enough
-passed : (q : Question) (qs : List Question) → (q .number ≡ 0 → ⊥) → firstNo (q ∷ qs) ≡ 0 → (q .yes ≡ true) × (firstNo qs ≡ 0)
+-- all questions of a frame answered yes: its kind is known, its numbers are finite, and the places are enough
+pub passed : (q : Question) (qs : List Question) → (q .number ≡ 0 → ⊥) → firstNo (q ∷ qs) ≡ 0 → (q .yes ≡ true) × (firstNo qs ≡ 0)
 passed q qs n e = by (q .yes) e
   where
     by : (b : Bool) → cond b (firstNo qs) (q .number) ≡ 0 → (b ≡ true) × (firstNo qs ≡ 0)
@@ -121,11 +114,17 @@ module _ (at : Frame) (n p : ℕ) (h : firstNo (frameQuestions at n p) ≡ 0) wh
   pub known : isKind at ≡ true
   known = passed (ask 3 (isKind at)) from-fourth (λ e. omega arith) h .0
 
-  pub roomy : placesFit at p ≡ true
-  roomy =
+  from-the-sixth : firstNo from-sixth ≡ 0
+  from-the-sixth =
       let fourth = passed (ask 3 (isKind at)) from-fourth (λ e. omega arith) h .1 in
       let fifth = passed (ask 4 (lengthFits n at)) from-fifth (λ e. omega arith) fourth .1 in
-      let sixth = passed (ask 5 (bytesFit at)) from-sixth (λ e. omega arith) fifth .1 in
-      let seventh = passed (ask 6 (numbersFit at)) from-seventh (λ e. omega arith) sixth .1 in
+      passed (ask 5 (bytesFit at)) from-sixth (λ e. omega arith) fifth .1
+
+  pub numbered : numbersFit at ≡ true
+  numbered = passed (ask 6 (numbersFit at)) from-seventh (λ e. omega arith) from-the-sixth .0
+
+  pub roomy : placesFit at p ≡ true
+  roomy =
+      let seventh = passed (ask 6 (numbersFit at)) from-seventh (λ e. omega arith) from-the-sixth .1 in
       let eighth = passed (ask 7 (countsFit at)) from-eighth (λ e. omega arith) seventh .1 in
       passed (ask 8 (placesFit at p)) [] (λ e. omega arith) eighth .0
