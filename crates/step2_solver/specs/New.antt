@@ -2,6 +2,8 @@
 use lib.Ieee.{Float, neg}
 use Rattle.float.specs.Ops.{_⊕_, _⊖_, _⊗_, #2}
 use Rattle.step2_solver.specs.declared.PositionThirdOrderStep2.{PositionThirdOrderStep2}
+use Rattle.step2_solver.specs.declared.Move.{Move}
+use Rattle.step2_solver.specs.declared.Limits.{Limits}
 
 unfoldable pub newOf : (tf p0 v0 a0 pf vf af «j_max» : Float) → PositionThirdOrderStep2
 newOf tf p0 v0 a0 pf vf af «j_max» =
@@ -55,4 +57,19 @@ newOf tf p0 v0 a0 pf vf af «j_max» =
       «j_max_j_max» = «j_max_j_max»;
       g1 = g1;
       g2 = g2;
+    }
+
+-- the Rust's `new`, of the twelve numbers
+abbrev pub solverOf : Move → PositionThirdOrderStep2
+solverOf x = newOf (x .tf) (x .p0) (x .v0) (x .a0) (x .pf) (x .vf) (x .af) (x .«j_max»)
+
+-- the limits that `new` and every shape are passed
+abbrev pub limitsOf : Move → Limits
+limitsOf x =
+    record {
+      «v_max» = x .«v_max»;
+      «v_min» = x .«v_min»;
+      «a_max» = x .«a_max»;
+      «a_min» = x .«a_min»;
+      «j_max» = x .«j_max»;
     }

@@ -7,7 +7,41 @@ pub mod time_acc0_acc1;
 pub mod time_acc0_acc1_vel;
 
 ghost use mathlib.Core.Path.{_≡_};
-ghost use Rattle.step2_solver.specs.New.{newOf};
+ghost use Rattle.step2_solver.specs.New.{newOf, solverOf, limitsOf};
+
+// The twelve numbers of a move, in the order of `new`.
+pub struct Move {
+    pub tf: f64,
+    pub p0: f64,
+    pub v0: f64,
+    pub a0: f64,
+    pub pf: f64,
+    pub vf: f64,
+    pub af: f64,
+    pub v_max: f64,
+    pub v_min: f64,
+    pub a_max: f64,
+    pub a_min: f64,
+    pub j_max: f64,
+}
+
+// The limits that every shape is passed.
+pub struct Limits {
+    pub v_max: f64,
+    pub v_min: f64,
+    pub a_max: f64,
+    pub a_min: f64,
+    pub j_max: f64,
+}
+
+// The five shapes.
+pub enum Shape {
+    Acc0Acc1Vel,
+    Acc1Vel,
+    Acc0Vel,
+    Acc0Acc1,
+    Acc0,
+}
 
 // The boundary numbers and their powers. The Rust keeps five limits and a flag besides, which these shapes never read.
 pub struct PositionThirdOrderStep2 {
@@ -126,6 +160,39 @@ impl PositionThirdOrderStep2 {
             j_max_j_max,
             g1,
             g2,
+        }
+    }
+}
+
+impl Move {
+    pub fn solver(self) -> PositionThirdOrderStep2
+        ensures { λ r. ⌜ r ≡ solverOf self ⌝ }
+    {
+        PositionThirdOrderStep2::new(
+            self.tf,
+            self.p0,
+            self.v0,
+            self.a0,
+            self.pf,
+            self.vf,
+            self.af,
+            self.v_max,
+            self.v_min,
+            self.a_max,
+            self.a_min,
+            self.j_max,
+        )
+    }
+
+    pub fn limits(self) -> Limits
+        ensures { λ r. ⌜ r ≡ limitsOf self ⌝ }
+    {
+        Limits {
+            v_max: self.v_max,
+            v_min: self.v_min,
+            a_max: self.a_max,
+            a_min: self.a_min,
+            j_max: self.j_max,
         }
     }
 }

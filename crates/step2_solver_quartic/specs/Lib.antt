@@ -1,2 +1,3 @@
 pub mod TimeAcc1Vel
 pub mod TimeAcc0Vel
+pub mod Quartics
