@@ -1,11 +1,11 @@
 // Numbers and bytes in hexadecimal digits, as the stored lists have them.
 use float::from_bits;
-use frame::to_be_bytes;
 use hex::encode;
+use number_bytes::to_be_bytes;
 ghost use mathlib.Core.Path.{_≡_};
 ghost use mathlib.Core.List.{[], _∷_};
 ghost use Rattle.hex.specs.Hex.{isDigit, valueOf, hexOf};
-ghost use Rattle.frame.specs.Bytes.{numberBytes};
+ghost use Rattle.number_bytes.specs.Bytes.{numberBytes};
 ghost use Rattle.digits.specs.Digits.{readOf};
 
 // A number, and whether it stood there.

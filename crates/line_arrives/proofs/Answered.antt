@@ -10,7 +10,7 @@ use lib.Ieee.{Float, binary64}
 use lib.Ieee.Bits.{ofBits-fits}
 use lib.Ieee.Scale.{finite}
 use borrow.Author.Tests.{ne-eqb, le-leb}
-use Rattle.arrival.specs.Reply.{Number}
+use Rattle.profile_arrives.specs.Reply.{Number}
 use Rattle.roots.specs.declared.RootAnswer.the-variants.{CubeRoot, Resolved}
 use Rattle.roots.proofs.Laws.{AnswerFits}
 use Rattle.profile.specs.declared.Checked.{Checked}

@@ -12,8 +12,8 @@ use Rattle.rounding.specs.Exact.{D, Size, Below, signed}
 use Rattle.rounding.specs.Value.{unit, val, Finite}
 use Rattle.rounding.specs.Motion.{Moving, perA, perV, perP, motion}
 use Rattle.rounding.specs.Step.{Node, from}
-use Rattle.arrival.specs.Reply.{time, jerk, node, after, Within}
-use Rattle.arrival.specs.Arrives.{Fraction, Distances, At}
+use Rattle.profile_arrives.specs.Reply.{time, jerk, node, after, Within}
+use Rattle.profile_arrives.specs.Arrives.{Fraction, Distances, At}
 use Rattle.step2_arrives.specs.Moves.{Numbers, Starts, Close, Arrival}
 use Rattle.line_arrives.specs.LineArrives.{moveIn, timeIn, jerkIn, stateAfter, duration, Sizes, VelocityKept, AccelerationKept, LineArrives}
 use Rattle.line_arrives.proofs.Agreeing.{Agree, motion-agrees, lasts-agrees}

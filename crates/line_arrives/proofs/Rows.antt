@@ -9,8 +9,8 @@ use lib.Dec.{T}
 use lib.ListN.{length, getD, length-append}
 use lib.Seq.{getD-append-seam, getD-append-add}
 use lib.Ieee.{Float, nan, binary64, fits, ofBits}
-use Rattle.frame.specs.Bytes.{wordOf, numberBytes}
-use Rattle.frame.proofs.Eight.{number-back}
+use Rattle.number_bytes.specs.Bytes.{wordOf, numberBytes}
+use Rattle.number_bytes.proofs.Eight.{number-back}
 use Rattle.profile.specs.Check.{labelsOf}
 use Rattle.profile.specs.declared.Profile.{Profile}
 use Rattle.profile.specs.declared.Checked.{Checked}

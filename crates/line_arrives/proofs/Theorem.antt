@@ -5,9 +5,9 @@ use mathlib.Core.List.{List, _++_}
 use Prim.Native.Nat.{ℕ, _+_, _*_, _<_}
 use Rattle.profile.specs.declared.Profile.{Profile}
 use Rattle.rounding.specs.Value.{Finite}
-use Rattle.arrival.specs.Reply.{time, jerk, Within}
-use Rattle.arrival.proofs.Facts.{yes-finite, held-jerk}
-use Rattle.arrival.specs.Arrives.{Fraction, Distances}
+use Rattle.profile_arrives.specs.Reply.{time, jerk, Within}
+use Rattle.profile_arrives.proofs.Facts.{yes-finite, held-jerk}
+use Rattle.profile_arrives.specs.Arrives.{Fraction, Distances}
 use Rattle.step2_arrives.specs.Moves.{Move, fresh, Arrival}
 use Rattle.step2_arrives.proofs.Made.{Made}
 use Rattle.step2_arrives.proofs.Arrives.{made-yes, made-starts, attempt-arrives, attempt-arrives-closely}

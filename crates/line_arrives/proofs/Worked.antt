@@ -18,7 +18,7 @@ use Rattle.profile.specs.Boundary.{boundaryOf}
 use Rattle.rounding.specs.Exact.{Size}
 use Rattle.rounding.specs.Value.{unit, mag, sign, val}
 use Rattle.rounding.specs.Motion.{lasts}
-use Rattle.arrival.proofs.Steps.{by-seven}
+use Rattle.profile_arrives.proofs.Steps.{by-seven}
 use Rattle.step2_solver.specs.New.{newOf}
 use Rattle.step2_solver.specs.TimeAcc0Acc1Vel.{acc0Acc1VelUdduApplies, acc0Acc1VelUdduRadicand, acc0Acc1VelUdduH1, acc0Acc1VelUdduT1, acc0Acc1VelUdduTimes, acc0Acc1VelUdudApplies, acc0Acc1VelUdudT1, acc0Acc1VelUdudT3, acc0Acc1VelUdudTimes}
 use Rattle.step2_attempt.specs.Attempt.{attemptOf}

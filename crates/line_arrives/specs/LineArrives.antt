@@ -1,5 +1,5 @@
 -- Demand 3 over the characters of a line and of its reply: which numbers they hold, the exact motion by these, and what it is to arrive. Definitions only.
--- The motion and the distances are those of crates/rounding/specs/Motion.antt and crates/arrival/specs/Arrives.antt, in whole numbers.
+-- The motion and the distances are those of crates/rounding/specs/Motion.antt and crates/profile_arrives/specs/Arrives.antt, in whole numbers.
 use mathlib.Core.Path.{_≡_}
 use mathlib.Core.Bool.{false}
 use mathlib.Core.List.{List}
@@ -8,8 +8,8 @@ use lib.Ieee.{Float}
 use Rattle.rounding.specs.Exact.{D, Size, Below, signed}
 use Rattle.rounding.specs.Value.{unit, val, Finite}
 use Rattle.rounding.specs.Motion.{Moving, perA, perV, perP, state, motion, lasts}
-use Rattle.arrival.specs.Reply.{upper, lower}
-use Rattle.arrival.specs.Arrives.{Fraction, _over_, Distances, At, Between, demanded, proved}
+use Rattle.profile_arrives.specs.Reply.{upper, lower}
+use Rattle.profile_arrives.specs.Arrives.{Fraction, _over_, Distances, At, Between, demanded, proved}
 use Rattle.step2_arrives.specs.Moves.{Move, Numbers, Close, in-time}
 use Rattle.step2_times.specs.Facts.{roundings, residual}
 use Rattle.hex.specs.Hex.{bytesOf}

@@ -5,7 +5,7 @@ use Prim.Native.Nat.{ℕ, zero, suc, _+_}
 use lib.ListN.{getD}
 use lib.Ieee.{Float, binary64, ofBits}
 use lib.Ieee.Scale.{finite}
-use Rattle.frame.specs.Bytes.{wordOf}
+use Rattle.number_bytes.specs.Bytes.{wordOf}
 
 -- byte i of a frame; 0 past its end
 abbrev pub byteAt : List ℕ → ℕ → ℕ

@@ -1,7 +1,7 @@
 // Numbers out of a frame's bytes.
 use float::from_bits;
-use frame::finite_bits;
-use frame::u64_from_be_bytes;
+use number_bytes::finite_bits;
+use number_bytes::u64_from_be_bytes;
 ghost use mathlib.Core.Path.{_≡_};
 ghost use Prim.Native.Nat.{_+_, _*_, _≤_};
 ghost use Rattle.line_frame.specs.Frame.{byteAt, wordAt, numberAt, numbersAt, allFinite};

@@ -9,7 +9,7 @@ use lib.ListN.{getD}
 use lib.Ieee.{Float, nan, binary64, toBits}
 use Rattle.hex.specs.Hex.{allDigits, hexOf}
 use Rattle.hex.proofs.Laws.{all-digits}
-use Rattle.frame.specs.Bytes.{wordBytes, numberBytes}
+use Rattle.number_bytes.specs.Bytes.{wordBytes, numberBytes}
 use Rattle.profile.specs.Labels.{labelNumber, directionNumber, signsNumber}
 use Rattle.profile.specs.declared.ReachedLimits.{ReachedLimits}
 use Rattle.profile.specs.declared.ReachedLimits.the-variants.{Acc0Acc1Vel, Vel, Acc0, Acc1, Acc0Acc1, Acc0Vel, Acc1Vel, None}

@@ -8,7 +8,7 @@ use native.Mathlib.Omega.{arith}
 use lib.ListN.{length, getD, take, drop, set, length-append, drop-of-length-le}
 use lib.Seq.{drop-cons, sets, sets-eq, take-append-seam}
 use lib.Ieee.{Float}
-use Rattle.frame.specs.Bytes.{numberBytes}
+use Rattle.number_bytes.specs.Bytes.{numberBytes}
 use Rattle.profile.specs.declared.in_place.Answer.{Answer}
 use Rattle.roots.specs.declared.Need.{Need}
 use Rattle.roots.specs.declared.Three.{Three}

@@ -6,7 +6,7 @@ use lib.Dec.{leb}
 use lib.ListN.{length, getD}
 use lib.Ieee.{Float, nan}
 use Rattle.hex.specs.Hex.{Filled, hexOf, fill}
-use Rattle.frame.specs.Bytes.{numberBytes}
+use Rattle.number_bytes.specs.Bytes.{numberBytes}
 use Rattle.profile.specs.Labels.{labelNumber, directionNumber, signsNumber}
 use Rattle.profile.specs.Check.{labelsOf}
 use Rattle.profile.specs.declared.Profile.{Profile}

@@ -1,10 +1,10 @@
 // Numbers stored as bytes, one after the other.
-use frame::to_be_bytes;
+use number_bytes::to_be_bytes;
 ghost use mathlib.Core.Path.{_≡_};
 ghost use Prim.Native.Nat.{_+_, _*_, _≤_};
 ghost use lib.ListN.{length};
 ghost use lib.Seq.{sets};
-ghost use Rattle.frame.specs.Bytes.{numberBytes};
+ghost use Rattle.number_bytes.specs.Bytes.{numberBytes};
 ghost use Rattle.line_reply.specs.Reply.{numbersBytes};
 
 fn put(bytes: &mut [u8], at: usize, x: f64)

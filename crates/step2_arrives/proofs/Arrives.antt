@@ -24,12 +24,12 @@ use Rattle.rounding.specs.Motion.{motion, state, lasts, elapsed}
 use Rattle.rounding.specs.Step.{Node, Replaced}
 use Rattle.rounding.specs.Run.{Recorded}
 use Rattle.rounding.proofs.Linear.{near-times, near-weaken}
-use Rattle.arrival.specs.Reply.{time, jerk, node, exact, Within, Residual}
-use Rattle.arrival.specs.Arrives.{Fraction, Arrives, proved}
-use Rattle.arrival.proofs.Yes.{Yes, check-yes}
-use Rattle.arrival.proofs.Facts.{jerk-is, yes-finite, time-above, total-is}
-use Rattle.arrival.proofs.Distances.{Narrowed, wider}
-use Rattle.arrival.proofs.CheckArrives.{check-recorded, check-arrives-closely}
+use Rattle.profile_arrives.specs.Reply.{time, jerk, node, exact, Within, Residual}
+use Rattle.profile_arrives.specs.Arrives.{Fraction, Arrives, proved}
+use Rattle.profile_arrives.proofs.Yes.{Yes, check-yes}
+use Rattle.profile_arrives.proofs.Facts.{jerk-is, yes-finite, time-above, total-is}
+use Rattle.profile_arrives.proofs.Distances.{Narrowed, wider}
+use Rattle.profile_arrives.proofs.CheckArrives.{check-recorded, check-arrives-closely}
 use Rattle.step2_times.specs.Facts.{Accepted, roundings, Lasts, Jerks, residual}
 use Rattle.step2_attempt.specs.Attempt.{timesOf}
 use Rattle.step2_arrives.specs.Moves.{Move, Numbers, Starts, Close, in-place, in-time, Demand3, Closely}

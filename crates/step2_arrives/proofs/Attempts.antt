@@ -16,7 +16,7 @@ use Rattle.step2_solver_quartic.specs.TimeAcc1Vel.{acc1VelUdduTimes, acc1VelUdu
 use Rattle.step2_solver_quartic.specs.TimeAcc0Vel.{acc0VelUdduTimes, acc0VelUdudTimes}
 use Rattle.step2_times.specs.Facts.{Number as FiniteNumber, Numbers as SixNumbers}
 use Rattle.step2_times.proofs.Facts.{acc0-acc1-vel-uddu, acc0-acc1-vel-udud, acc1-vel-uddu, acc1-vel-udud, acc0-vel-uddu, acc0-vel-udud, acc0-acc1-rest, acc0-acc1-uddu, acc0-first, acc0-second, acc0-third}
-use Rattle.arrival.specs.Reply.{Number}
+use Rattle.profile_arrives.specs.Reply.{Number}
 use Rattle.step2_arrives.specs.Moves.{Move, Numbers, solver}
 use Rattle.step2_arrives.proofs.Made.{TimesFit, Timed, replacing, leaving}
 

@@ -6,8 +6,8 @@ use lib.Dec.{T}
 use lib.Ieee.{binary64, fits}
 use lib.Ieee.Bits.{ofBits-fits}
 use Rattle.profile.specs.Boundary.{boundaryOf}
-use Rattle.arrival.specs.Reply.{time, Within}
-use Rattle.arrival.proofs.Steps.{by-seven}
+use Rattle.profile_arrives.specs.Reply.{time, Within}
+use Rattle.profile_arrives.proofs.Steps.{by-seven}
 use Rattle.roots.specs.declared.RootAnswer.{RootAnswer}
 use Rattle.roots.proofs.Laws.{AnswerFits}
 use Rattle.position_third_step2.specs.declared.Shape.{Shape}

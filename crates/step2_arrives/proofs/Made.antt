@@ -13,9 +13,9 @@ use Rattle.profile.specs.Labels.{testsOf}
 use Rattle.profile.specs.Check.{profileOf, nodesOf, goalOf, labelsOf, checkOf}
 use Rattle.rounding.specs.Motion.{motion, state}
 use Rattle.rounding.specs.Step.{Replaced}
-use Rattle.arrival.specs.Reply.{time}
-use Rattle.arrival.proofs.Steps.{by-seven}
-use Rattle.arrival.proofs.Yes.{Carried, held-left}
+use Rattle.profile_arrives.specs.Reply.{time}
+use Rattle.profile_arrives.proofs.Steps.{by-seven}
+use Rattle.profile_arrives.proofs.Yes.{Carried, held-left}
 use Rattle.step2_solver.specs.declared.Times.{Times}
 use Rattle.step2_times.specs.Facts.{Accepted, Lasts, Jerks, residual, Replaces}
 use Rattle.step2_attempt.specs.Attempt.{timesOf}

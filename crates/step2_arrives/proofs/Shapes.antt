@@ -1,6 +1,6 @@
 -- Demand 3. For every shape, whatever the root answers hold, a yes is a move that arrives: the seven times and jerks of the record carry the exact motion from the start to the goal, in the duration and within the limits.
 -- The solver and the record share one start (`Starts`), as they do for every line; the twelve numbers are finite (`Numbers`); and of the size of the move no more is asked than the demand does (`Within`).
--- The eleven attempts come down to one theorem about `check`, in crates/arrival, and to eleven facts about times, in crates/step2_times. Assumes nothing.
+-- The eleven attempts come down to one theorem about `check`, in crates/profile_arrives, and to eleven facts about times, in crates/step2_times. Assumes nothing.
 use mathlib.Core.Path.{_≡_}
 use mathlib.Core.Bool.{true, _||_}
 use lib.Dec.{T}
@@ -10,7 +10,7 @@ use Rattle.sqrt.proofs.Laws.{sqrtOf-fits}
 use Rattle.profile.specs.declared.ReachedLimits.the-variants.{Acc0Acc1Vel as Label-Acc0Acc1Vel, Acc0 as Label-Acc0, Acc0Acc1 as Label-Acc0Acc1, Acc0Vel as Label-Acc0Vel, Acc1Vel as Label-Acc1Vel, None}
 use Rattle.profile.specs.declared.ControlSigns.the-variants.{UDDU, UDUD}
 use Rattle.profile.specs.declared.Profile.{Profile}
-use Rattle.arrival.specs.Reply.{Within}
+use Rattle.profile_arrives.specs.Reply.{Within}
 use Rattle.roots.specs.declared.RootAnswer.{RootAnswer}
 use Rattle.roots.proofs.Laws.{Fits64, AnswerFits}
 use Rattle.step2_solver.specs.TimeAcc0Acc1Vel.{acc0Acc1VelUdduApplies, acc0Acc1VelUdduH1, acc0Acc1VelUdduT1, acc0Acc1VelUdduTimes, acc0Acc1VelUdudApplies, acc0Acc1VelUdudT1, acc0Acc1VelUdudT3, acc0Acc1VelUdudTimes}

@@ -9,7 +9,7 @@ use Rattle.profile.specs.declared.ReachedLimits.{ReachedLimits}
 use Rattle.profile.specs.declared.ControlSigns.{ControlSigns}
 use Rattle.profile.specs.declared.Profile.{Profile}
 use Rattle.profile.specs.declared.Checked.{Checked}
-use Rattle.arrival.proofs.Yes.{check-carries}
+use Rattle.profile_arrives.proofs.Yes.{check-carries}
 use Rattle.roots.specs.declared.RootAnswer.{RootAnswer}
 use Rattle.roots.specs.Set.{sortedOf}
 use Rattle.roots.specs.Quartic.{polynomRootsOf}

@@ -22,8 +22,8 @@ use Rattle.roots.specs.declared.RootAnswer.the-variants.{CubeRoot}
 use Rattle.rounding.specs.Exact.{Size}
 use Rattle.rounding.specs.Value.{unit, mag, sign, val}
 use Rattle.rounding.specs.Motion.{lasts}
-use Rattle.arrival.specs.Reply.{jerk, Within}
-use Rattle.arrival.proofs.Steps.{by-seven}
+use Rattle.profile_arrives.specs.Reply.{jerk, Within}
+use Rattle.profile_arrives.proofs.Steps.{by-seven}
 use Rattle.step2_solver.specs.New.{newOf}
 use Rattle.step2_solver.specs.TimeAcc0Acc1Vel.{acc0Acc1VelUdduApplies, acc0Acc1VelUdduRadicand, acc0Acc1VelUdduH1, acc0Acc1VelUdduT1, acc0Acc1VelUdduTimes}
 use Rattle.position_third_step2.specs.declared.Shape.the-variants.{Acc0Acc1Vel}

@@ -1,5 +1,5 @@
 -- The test that `check` makes inside a phase: a yes says of every phase from 2 on that the velocity where the recorded acceleration passes through 0 keeps its limits, wherever `check` tests it. Assumes nothing.
--- It is stated of the record that is left, so that it can be used beside `Yes` of crates/arrival.
+-- It is stated of the record that is left, so that it can be used beside `Yes` of crates/profile_arrives.
 use mathlib.Core.Path.{_≡_, refl, sym, ap, _∙_, subst}
 use mathlib.Core.Bool.{Bool, true, false, cond, not, _&&_, _||_, true≢false}
 use mathlib.Core.Logic.{inl, inr}
@@ -25,9 +25,9 @@ use Rattle.profile.specs.Limit.{directionOf, bandOf}
 use Rattle.profile.specs.Phase.{Nodes, replacedOf, zeroInsideOf, nodeOf, phaseOf}
 use Rattle.profile.specs.Check.{profileOf, nodesOf, goalOf, labelsOf, labels, arrivedOf, keptOf, checkOf}
 use Rattle.rounding.specs.Step.{Node, nextA, nextV, nextP}
-use Rattle.arrival.specs.Reply.{jerk, node, Held}
-use Rattle.arrival.proofs.Steps.{at, stored}
-use Rattle.arrival.proofs.Yes.{Yes, check-yes}
+use Rattle.profile_arrives.specs.Reply.{jerk, node, Held}
+use Rattle.profile_arrives.proofs.Steps.{at, stored}
+use Rattle.profile_arrives.proofs.Yes.{Yes, check-yes}
 use Rattle.step2_arrives.specs.Moves.{Move}
 use Rattle.step2_arrives.proofs.Made.{Made}
 

@@ -9,8 +9,8 @@ use Rattle.rounding.specs.Exact.{D, Near, _⊙_}
 use Rattle.rounding.specs.Value.{unit, val}
 use Rattle.rounding.specs.Motion.{lasts}
 use Rattle.rounding.specs.Step.{Node}
-use Rattle.arrival.specs.Reply.{time, node, Held, Number}
-use Rattle.arrival.specs.Arrives.{Fraction, _over_, Distances, Arrives, demanded, proved}
+use Rattle.profile_arrives.specs.Reply.{time, node, Held, Number}
+use Rattle.profile_arrives.specs.Arrives.{Fraction, _over_, Distances, Arrives, demanded, proved}
 use Rattle.roots.specs.declared.RootAnswer.{RootAnswer}
 use Rattle.step2_solver.specs.declared.PositionThirdOrderStep2.{PositionThirdOrderStep2}
 use Rattle.step2_solver.specs.New.{newOf}

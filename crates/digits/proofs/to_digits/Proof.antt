@@ -2,7 +2,7 @@
 use borrow.Author.Needs.{needs}
 use lib.ListN.{replicate}
 use Rattle.hex.specs.Hex.{encodeOf}
-use Rattle.frame.specs.Bytes.{numberBytes}
+use Rattle.number_bytes.specs.Bytes.{numberBytes}
 use Rattle.digits.proofs.Both.{written}
 use Rattle.digits.proofs.to_digits.Statement.{statement}
 use Rattle.digits.proofs.to_digits.Tie as tie

@@ -8,7 +8,7 @@ use lib.Dec.{T}
 use lib.ListN.{length, getD}
 use lib.Ieee.{Float, binary64, ofBits, toBits, fits}
 use lib.Ieee.Bits.{ofBits-toBits, toBits-lt}
-use Rattle.frame.specs.Bytes.{wordOf, wordBytes, numberOf, numberBytes}
+use Rattle.number_bytes.specs.Bytes.{wordOf, wordBytes, numberOf, numberBytes}
 
 pub listed : (xs : List ℕ) → length xs ≡ 8
     → getD xs 0 0 ∷ getD xs 1 0 ∷ getD xs 2 0 ∷ getD xs 3 0 ∷ getD xs 4 0 ∷ getD xs 5 0 ∷ getD xs 6 0 ∷ getD xs 7 0 ∷ [] ≡ xs

@@ -26,12 +26,12 @@ use Rattle.rounding.specs.Motion.{lasts, elapsed}
 use Rattle.rounding.specs.Step.{Node, nextA, Replaced}
 use Rattle.rounding.specs.Run.{Run, Recorded}
 use Rattle.rounding.proofs.Run.{recorded}
-use Rattle.arrival.specs.Reply.{time, jerk, node, exact, after, upper, lower, Held, Number, Within, Residual}
-use Rattle.arrival.specs.Arrives.{Arrives, demanded, proved}
-use Rattle.arrival.proofs.Yes.{Yes, check-yes, held-left}
-use Rattle.arrival.proofs.Facts.{end-p, end-v, end-a, end-finite, held-jerk, total-is, limits-kept}
-use Rattle.arrival.proofs.Nodes.{at-p, at-v, at-a, v-between, a-between}
-use Rattle.arrival.proofs.Distances.{wider, narrower}
+use Rattle.profile_arrives.specs.Reply.{time, jerk, node, exact, after, upper, lower, Held, Number, Within, Residual}
+use Rattle.profile_arrives.specs.Arrives.{Arrives, demanded, proved}
+use Rattle.profile_arrives.proofs.Yes.{Yes, check-yes, held-left}
+use Rattle.profile_arrives.proofs.Facts.{end-p, end-v, end-a, end-finite, held-jerk, total-is, limits-kept}
+use Rattle.profile_arrives.proofs.Nodes.{at-p, at-v, at-a, v-between, a-between}
+use Rattle.profile_arrives.proofs.Distances.{wider, narrower}
 
 -- ---- what `check` recorded is a run of seven phases
 chosen : (a b : Bool) (w x z : Float) → w ≡ cond (a && b) z x → (w ≡ x) ⊎ (T a × T b × (w ≡ z))

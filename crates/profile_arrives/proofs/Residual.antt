@@ -23,9 +23,9 @@ use Rattle.rounding.specs.Motion.{motion, perA}
 use Rattle.rounding.proofs.Literals.{val-0}
 use Rattle.rounding.proofs.Compare.{lt-not}
 use Rattle.rounding.proofs.Ops.{val-neg}
-use Rattle.arrival.specs.Reply.{time, jerk, node, after, Held, Residual}
-use Rattle.arrival.proofs.Yes.{Yes, held-left}
-use Rattle.arrival.proofs.Facts.{is-false, jerk-is, zero-finite, yes-finite, time-above}
+use Rattle.profile_arrives.specs.Reply.{time, jerk, node, after, Held, Residual}
+use Rattle.profile_arrives.proofs.Yes.{Yes, held-left}
+use Rattle.profile_arrives.proofs.Facts.{is-false, jerk-is, zero-finite, yes-finite, time-above}
 
 -- a label that replaces nothing has no residual
 pub no-residual : (r : ℕ) (limits : ReachedLimits) (q : Profile) → testsOf limits .a3 ≡ false → Residual r limits q

@@ -15,10 +15,10 @@ use Rattle.rounding.specs.Run.{offA, offV, offP, Run}
 use Rattle.rounding.proofs.Literals.{val-1e-12}
 use Rattle.rounding.proofs.Limits.{limit-above, limit-below}
 use Rattle.rounding.proofs.Run.{recorded, recorded-held, recorded-size, node-finite}
-use Rattle.arrival.specs.Reply.{Number}
-use Rattle.arrival.specs.Arrives.{part, At, Between, proved}
-use Rattle.arrival.proofs.Facts.{Inside}
-use Rattle.arrival.proofs.Distances.{fine-1e-8, fine-1e-10, fine-1e-12, at-most-one, lands, not-over, not-under}
+use Rattle.profile_arrives.specs.Reply.{Number}
+use Rattle.profile_arrives.specs.Arrives.{part, At, Between, proved}
+use Rattle.profile_arrives.proofs.Facts.{Inside}
+use Rattle.profile_arrives.proofs.Distances.{fine-1e-8, fine-1e-10, fine-1e-12, at-most-one, lands, not-over, not-under}
 
 -- ---- one recorded number between two limits
 e12-finite : Finite #1e-12

@@ -1,10 +1,10 @@
 -- `u64_from_be_bytes` is `wordOf`. Assumes nothing.
 use mathlib.Core.Path.{ap}
 use borrow.Author.Needs.{needs}
-use Rattle.frame.specs.Bytes.{wordOf}
-use Rattle.frame.proofs.Eight.{listed}
-use Rattle.frame.proofs.u64_from_be_bytes.Statement.{statement}
-use Rattle.frame.proofs.u64_from_be_bytes.Tie as tie
+use Rattle.number_bytes.specs.Bytes.{wordOf}
+use Rattle.number_bytes.proofs.Eight.{listed}
+use Rattle.number_bytes.proofs.u64_from_be_bytes.Statement.{statement}
+use Rattle.number_bytes.proofs.u64_from_be_bytes.Tie as tie
 
 returns : tie.Need-returns
 returns c = rw (c .word .ensures) (ap wordOf (listed (c .before .args .t1) (search needs)))

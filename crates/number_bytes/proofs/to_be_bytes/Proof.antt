@@ -1,7 +1,7 @@
 -- `to_be_bytes` is `numberBytes`. Assumes nothing.
 use borrow.Author.Needs.{needs}
-use Rattle.frame.proofs.to_be_bytes.Statement.{statement}
-use Rattle.frame.proofs.to_be_bytes.Tie as tie
+use Rattle.number_bytes.proofs.to_be_bytes.Statement.{statement}
+use Rattle.number_bytes.proofs.to_be_bytes.Tie as tie
 
 returns : tie.Need-returns
 returns c = rw (c .word-bytes .ensures, c .before .to-bits .ensures)

@@ -1,8 +1,8 @@
 -- `word_bytes` is `wordBytes`. Assumes nothing.
 use mathlib.Core.Path.{refl}
 use borrow.Author.Needs.{needs}
-use Rattle.frame.proofs.word_bytes.Statement.{statement}
-use Rattle.frame.proofs.word_bytes.Tie as tie
+use Rattle.number_bytes.proofs.word_bytes.Statement.{statement}
+use Rattle.number_bytes.proofs.word_bytes.Tie as tie
 
 returns : tie.Need-returns
 returns c = refl

@@ -24,8 +24,8 @@ use Rattle.profile.specs.Limit.{directionOf, bandOf}
 use Rattle.profile.specs.Phase.{Nodes, replacedOf, nodeOf, phaseOf}
 use Rattle.profile.specs.Check.{profileOf, nodesOf, goalOf, labelsOf, labels, arrivedOf, keptOf, checkOf}
 use Rattle.rounding.specs.Step.{Node, nextA, nextV, nextP}
-use Rattle.arrival.specs.Reply.{time, jerk, node, Held}
-use Rattle.arrival.proofs.Steps.{at, stored, Eight, Begins, each-yes, begins, follows}
+use Rattle.profile_arrives.specs.Reply.{time, jerk, node, Held}
+use Rattle.profile_arrives.proofs.Steps.{at, stored, Eight, Begins, each-yes, begins, follows}
 
 -- the node after phase i, as `check` records it without set_limits: 0 in the place of a[3] where the label says so
 abbrev pub stepped : Tests → ℕ → Float → Float → Node → Node

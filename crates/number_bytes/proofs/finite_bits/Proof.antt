@@ -1,8 +1,8 @@
 -- `finite_bits` is `finite` of the number with these bits. Assumes nothing.
 use borrow.Author.Needs.{needs}
-use Rattle.frame.proofs.Finite.{finite-is}
-use Rattle.frame.proofs.finite_bits.Statement.{statement}
-use Rattle.frame.proofs.finite_bits.Tie as tie
+use Rattle.number_bytes.proofs.Finite.{finite-is}
+use Rattle.number_bytes.proofs.finite_bits.Statement.{statement}
+use Rattle.number_bytes.proofs.finite_bits.Tie as tie
 
 returns : tie.Need-returns
 returns c = finite-is (c .args .bits) (c .fits .bits .fits)

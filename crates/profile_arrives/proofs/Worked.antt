@@ -23,10 +23,10 @@ use Rattle.profile.specs.Check.{arrivedOf, keptOf, checkOf}
 use Rattle.rounding.specs.Exact.{Size}
 use Rattle.rounding.specs.Value.{unit, mag, sign, val}
 use Rattle.rounding.specs.Motion.{motion, lasts}
-use Rattle.arrival.specs.Reply.{time, jerk, Held, Number, Within, Residual}
-use Rattle.arrival.specs.Arrives.{Arrives, demanded}
-use Rattle.arrival.proofs.Steps.{by-seven}
-use Rattle.arrival.proofs.CheckArrives.{reply, check-arrives}
+use Rattle.profile_arrives.specs.Reply.{time, jerk, Held, Number, Within, Residual}
+use Rattle.profile_arrives.specs.Arrives.{Arrives, demanded}
+use Rattle.profile_arrives.proofs.Steps.{by-seven}
+use Rattle.profile_arrives.proofs.CheckArrives.{reply, check-arrives}
 
 abbrev zeros : List Float
 zeros = #0 ∷ #0 ∷ #0 ∷ #0 ∷ #0 ∷ #0 ∷ #0 ∷ []

@@ -16,8 +16,8 @@ use Rattle.rounding.proofs.Literals.{mag-1e-8, mag-1e-10, mag-1e-12}
 use Rattle.profile.specs.declared.Profile.{Profile}
 use Rattle.rounding.specs.Motion.{perA, perV, perP}
 use Rattle.rounding.specs.Run.{offA, offV, offP}
-use Rattle.arrival.specs.Arrives.{Fraction, part, At, Between, Distances, Arrives, demanded, proved}
-use Rattle.arrival.specs.Reply.{after, upper, lower}
+use Rattle.profile_arrives.specs.Arrives.{Fraction, part, At, Between, Distances, Arrives, demanded, proved}
+use Rattle.profile_arrives.specs.Reply.{after, upper, lower}
 
 -- ---- the tolerances of `check` are 1e-8, 1e-10 and 1e-12 within 2 ^ -53 of themselves
 fine : (M m P q W U : ℕ) → 0 < P → M * P ≡ m * U → q * W * m ≤ (W + 1) * P → M * (q * W) ≤ (W + 1) * U

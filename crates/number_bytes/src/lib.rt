@@ -3,7 +3,7 @@ ghost use mathlib.Core.Path.{_≡_};
 ghost use mathlib.Core.List.{[], _∷_};
 ghost use lib.Ieee.{binary64, ofBits};
 ghost use lib.Ieee.Scale.{finite};
-ghost use Rattle.frame.specs.Bytes.{wordOf, wordBytes, numberBytes};
+ghost use Rattle.number_bytes.specs.Bytes.{wordOf, wordBytes, numberBytes};
 
 fn word(b0: u8, b1: u8, b2: u8, b3: u8, b4: u8, b5: u8, b6: u8, b7: u8) -> u64
     ensures { λ r. ⌜ r ≡ wordOf (b0 ∷ b1 ∷ b2 ∷ b3 ∷ b4 ∷ b5 ∷ b6 ∷ b7 ∷ []) ⌝ }

@@ -7,7 +7,7 @@ use Rattle.rounding.specs.Exact.{D, Near, Below, signed, _⊞_, _⊙_}
 use Rattle.rounding.specs.Value.{unit, val}
 use Rattle.rounding.specs.Motion.{perA, perV, perP}
 use Rattle.rounding.specs.Run.{offA, offV, offP}
-use Rattle.arrival.specs.Reply.{after, upper, lower}
+use Rattle.profile_arrives.specs.Reply.{after, upper, lower}
 
 -- the number m / d
 pub record Fraction : Type 0 where

@@ -30,9 +30,9 @@ use Rattle.rounding.proofs.Literals.{val-0}
 use Rattle.rounding.proofs.Compare.{lt-not, lt-finite, lt-size, val-cleared}
 use Rattle.rounding.proofs.Phase.{AllFinite, nextP-finite}
 use Rattle.rounding.proofs.Run.{lasts-elapsed}
-use Rattle.arrival.specs.Reply.{time, jerk, node, Held, upper, lower}
-use Rattle.arrival.proofs.Steps.{by-seven}
-use Rattle.arrival.proofs.Yes.{Yes, both, held-left}
+use Rattle.profile_arrives.specs.Reply.{time, jerk, node, Held, upper, lower}
+use Rattle.profile_arrives.proofs.Steps.{by-seven}
+use Rattle.profile_arrives.proofs.Yes.{Yes, both, held-left}
 
 is-true : {b : Bool} → b ≡ true → T b
 is-true e = subst T (sym e) tt
