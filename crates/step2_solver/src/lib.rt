@@ -1,6 +1,6 @@
-// position_third_step2.rs: the solver's record and, a file for each shape, every expression and every attempt of the three
-// shapes that find no roots. A time with a long numerator has a function of its own, and the times take its value, as they take
-// h1 or jf: but for rounding they add up to tf whatever those are.
+// position_third_step2.rs: the solver's record and, a file for each shape, every expression and every attempt of the
+// three shapes that find no roots. A time with a long numerator has a function of its own, and the times take its
+// value, as they take h1 or jf: but for rounding they add up to tf whatever those are.
 
 pub mod time_acc0;
 pub mod time_acc0_acc1;

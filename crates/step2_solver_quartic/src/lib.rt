@@ -1,5 +1,5 @@
-// position_third_step2.rs: a file for each of the two shapes that try the roots of a quartic, every expression of it and its
-// two attempts at one root. The quartic itself is solved elsewhere.
+// position_third_step2.rs: a file for each of the two shapes that try the roots of a quartic, every expression of it
+// and its two attempts at one root. The quartic itself is solved elsewhere.
 
 pub mod time_acc0_vel;
 pub mod time_acc1_vel;

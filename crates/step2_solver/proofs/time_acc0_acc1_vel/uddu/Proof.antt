@@ -23,4 +23,6 @@ unfolding acc0Acc1VelUddu
 returns-2 c = rw (← c .before .before .uddu-applies .ensures, c .before .if1 .left) (c .no-trial .ensures)
 
 pub uddu-spec : {M : Type 1} → statement M
-uddu-spec = tie.close (tie.spec (λ c κs. tt) (λ c κs. tt) (λ c κs. tt) (λ c κs. tt) (λ c κs. tt) (λ c κs. tt) returns returns-2)
+uddu-spec =
+    tie.close
+    (tie.spec (λ c κs. tt) (λ c κs. tt) (λ c κs. tt) (λ c κs. tt) (λ c κs. tt) (λ c κs. tt) returns returns-2)

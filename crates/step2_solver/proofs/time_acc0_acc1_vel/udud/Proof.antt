@@ -23,4 +23,6 @@ unfolding acc0Acc1VelUdud
 returns-2 c = rw (← c .before .before .udud-applies .ensures, c .before .if1 .left) (c .no-trial .ensures)
 
 pub udud-spec : {M : Type 1} → statement M
-udud-spec = tie.close (tie.spec (λ c κs. tt) (λ c κs. tt) (λ c κs. tt) (λ c κs. tt) (λ c κs. tt) (λ c κs. tt) returns returns-2)
+udud-spec =
+    tie.close
+    (tie.spec (λ c κs. tt) (λ c κs. tt) (λ c κs. tt) (λ c κs. tt) (λ c κs. tt) (λ c κs. tt) returns returns-2)
