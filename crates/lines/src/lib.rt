@@ -10,41 +10,41 @@ use line_kinds::row_of;
 use line_questions::length_fits;
 use replying::reply_to;
 ghost use mathlib.Core.Path.{_≡_};
-ghost use Rattle.lines.specs.Answer.{Answer, answerOf, Outcome, outcomeOf};
+ghost use Rattle.lines.specs.Answer.{answerOf, outcomeOf};
 
 // The number, and how many of the lent places the reply fills.
-pub struct Answered {
+pub struct Numbered {
     pub number: u32,
     pub filled: usize,
 }
 
-pub fn answered(request: &[u8], reply: &mut [u8]) -> Answered
+pub fn answered(request: &[u8], reply: &mut [u8]) -> Numbered
     ensures { λ r. ⌜ record { number = r .number; filled = r .filled; places = now (reply .exit) }
         ≡ outcomeOf (now (request .entry)) (now (reply .entry)) ⌝ }
 {
     let n = request.len();
     if !length_fits(n) {
-        return Answered {
+        return Numbered {
             number: 1,
             filled: 0,
         };
     }
     let mut frame = [0u8; FRAME];
     if !decode(request, &mut frame) {
-        return Answered {
+        return Numbered {
             number: 2,
             filled: 0,
         };
     }
     let row = row_of(frame[0]);
     if row.bytes == 0 {
-        return Answered {
+        return Numbered {
             number: 3,
             filled: 0,
         };
     }
     if n / 2 != row.bytes {
-        return Answered {
+        return Numbered {
             number: 4,
             filled: 0,
         };
@@ -52,12 +52,9 @@ pub fn answered(request: &[u8], reply: &mut [u8]) -> Answered
     let asks = row.asks;
     let number = reply_to(asks, &frame, reply);
     if number != 0 {
-        return Answered {
-            number,
-            filled: 0,
-        };
+        return Numbered { number, filled: 0 };
     }
-    Answered {
+    Numbered {
         number: 0,
         filled: row.places,
     }

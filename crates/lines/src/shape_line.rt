@@ -95,6 +95,15 @@ pub fn shape_line(shape: Shape, frame: &[u8; FRAME], reply: &mut [u8]) -> u32
     if reply.len() < RECORD {
         return 8;
     }
-    shape_reply(shape, x, s, l, q, first_answer(frame), second_answer(frame), reply);
+    shape_reply(
+        shape,
+        x,
+        s,
+        l,
+        q,
+        first_answer(frame),
+        second_answer(frame),
+        reply,
+    );
     0
 }
