@@ -30,9 +30,10 @@ use Rattle.profile_arrives.proofs.Yes.{Yes, check-yes}
 use Rattle.profile_arrives.proofs.Facts.{jerk-is, yes-finite, time-above, total-is}
 use Rattle.profile_arrives.proofs.Distances.{Narrowed, wider}
 use Rattle.profile_arrives.proofs.CheckArrives.{check-recorded, check-arrives-closely}
+use Rattle.step2_solver.specs.declared.Move.{Move}
 use Rattle.step2_times.specs.Facts.{Accepted, roundings, Lasts, Jerks, residual}
 use Rattle.step2_attempt.specs.Attempt.{timesOf}
-use Rattle.step2_arrives.specs.Moves.{Move, Numbers, Starts, Close, in-place, in-time, Demand3, Closely}
+use Rattle.step2_arrives.specs.Moves.{Numbers, Starts, Close, in-place, in-time, Demand3, Closely}
 use Rattle.step2_arrives.proofs.Made.{Made, starts-left}
 use Rattle.step2_arrives.proofs.Sound.{AlwaysSound}
 
@@ -61,8 +62,8 @@ distances = record { position = (lit≤ tt, lit≤ tt); velocity = (lit≤ tt, l
 
 module _ {m : Move} {q : Profile} (d : Made m q) where
   -- ---- what `check` recorded and tested
-  pub made-yes : Yes (d .signs) (d .limits) (d .jf) (m .v-max) (m .v-min) (m .a-max) (m .a-min) (d .before) q
-  made-yes = subst (λ (z : Profile). Yes (d .signs) (d .limits) (d .jf) (m .v-max) (m .v-min) (m .a-max) (m .a-min) (d .before) z) (sym (d .left)) (check-yes (d .signs) (d .limits) (d .jf) (m .v-max) (m .v-min) (m .a-max) (m .a-min) (d .before) (d .starts .held) (d .said))
+  pub made-yes : Yes (d .signs) (d .limits) (d .jf) (m .«v_max») (m .«v_min») (m .«a_max») (m .«a_min») (d .before) q
+  made-yes = subst (λ (z : Profile). Yes (d .signs) (d .limits) (d .jf) (m .«v_max») (m .«v_min») (m .«a_max») (m .«a_min») (d .before) z) (sym (d .left)) (check-yes (d .signs) (d .limits) (d .jf) (m .«v_max») (m .«v_min») (m .«a_max») (m .«a_min») (d .before) (d .starts .held) (d .said))
 
   pub made-starts : Starts m q
   made-starts = starts-left (made-yes .carried) (d .starts)
@@ -120,14 +121,14 @@ module _ {m : Move} {q : Profile} (d : Made m q) where
       pub made-recorded : (i : ℕ) → i ≤ 7 → Recorded residual (node q i) (exact q i)
       made-recorded =
           subst (λ (z : Profile). (i : ℕ) → i ≤ 7 → Recorded residual (node z i) (exact z i)) (sym (d .left))
-          (check-recorded (d .signs) (d .limits) (d .jf) (m .v-max) (m .v-min) (m .a-max) (m .a-min) (d .before) (d .starts .held) (d .held-jf) (n .of-v-max) (n .of-v-min) (n .of-a-max) (n .of-a-min) (d .said) residual (lit≤ tt)
+          (check-recorded (d .signs) (d .limits) (d .jf) (m .«v_max») (m .«v_min») (m .«a_max») (m .«a_min») (d .before) (d .starts .held) (d .held-jf) (n .of-v-max) (n .of-v-min) (n .of-a-max) (n .of-a-min) (d .said) residual (lit≤ tt)
           (subst (λ (z : Profile). Within z) (d .left) w) (subst (λ (z : Profile). Residual residual (d .limits) z) (d .left) made-residual))
 
       -- ---- the theorem, of any attempt
-      closely : Arrives (proved residual) (m .v-max) (m .v-min) (m .a-max) (m .a-min) q
+      closely : Arrives (proved residual) (m .«v_max») (m .«v_min») (m .«a_max») (m .«a_min») q
       closely =
-          subst (λ (z : Profile). Arrives (proved residual) (m .v-max) (m .v-min) (m .a-max) (m .a-min) z) (sym (d .left))
-          (check-arrives-closely (d .signs) (d .limits) (d .jf) (m .v-max) (m .v-min) (m .a-max) (m .a-min) (d .before) (d .starts .held) (d .held-jf) (n .of-v-max) (n .of-v-min) (n .of-a-max) (n .of-a-min) (d .said) residual (lit≤ tt)
+          subst (λ (z : Profile). Arrives (proved residual) (m .«v_max») (m .«v_min») (m .«a_max») (m .«a_min») z) (sym (d .left))
+          (check-arrives-closely (d .signs) (d .limits) (d .jf) (m .«v_max») (m .«v_min») (m .«a_max») (m .«a_min») (d .before) (d .starts .held) (d .held-jf) (n .of-v-max) (n .of-v-min) (n .of-a-max) (n .of-a-min) (d .said) residual (lit≤ tt)
           (subst (λ (z : Profile). Within z) (d .left) w) (subst (λ (z : Profile). Residual residual (d .limits) z) (d .left) made-residual))
 
       pub attempt-arrives-closely : Closely m q
@@ -137,7 +138,7 @@ module _ {m : Move} {q : Profile} (d : Made m q) where
       attempt-arrives =
           record {
             starts = made-starts;
-            arrives = wider (proved residual) in-place (m .v-max) (m .v-min) (m .a-max) (m .a-min) q distances closely;
+            arrives = wider (proved residual) in-place (m .«v_max») (m .«v_min») (m .«a_max») (m .«a_min») q distances closely;
             duration = close made-lasts in-time (less (made-lasts .err) unit (2 ^ 53) roundings (in-time .d) (in-time .m) (pow-pos 53) (made-lasts .bound) (lit≤ tt));
           }
 
