@@ -1,6 +1,6 @@
--- The eleven attempts of the five shapes: the times of each fit binary64, and by the facts of step2_times they are known
--- well enough. The root and the numbers h1, t1, .. are any f64s: only the formulas of the times count. So another t[1] in
--- the rest formula asks for no more than `acc0-acc1-rest-timed`. Assumes nothing.
+-- The eleven attempts of the five shapes: the times of each fit binary64, and by the facts of step2_times they are
+-- known well enough. The root and the numbers h1, t1, .. are any f64s: only the formulas of the times count. So
+-- another t[1] in the rest formula asks for no more than `acc0-acc1-rest-timed`. Assumes nothing.
 use mathlib.Core.Path.{refl}
 use lib.Dec.{T}
 use lib.Ieee.{Float, binary64, fits}
@@ -151,7 +151,9 @@ module _ {m : Move} (n : Numbers m) where
   pub acc0-acc1-uddu-timed : {limits : ReachedLimits} (jf : Float) → Fit jf
       → Timed limits (m .tf) (m .a0) jf (acc0Acc1UdduTimes s a-max a-min jf (acc0Acc1UdduT1 s a-max a-min jf))
   acc0-acc1-uddu-timed jf f-jf =
-      replacing (acc0-acc1-uddu-fit s a-max a-min j-max jf (acc0Acc1UdduT1 s a-max a-min jf) (unfold acc0Acc1UdduT1 in search (div-fits)))
+      replacing
+      (acc0-acc1-uddu-fit s a-max a-min j-max jf (acc0Acc1UdduT1 s a-max a-min jf)
+      (unfold acc0Acc1UdduT1 in search (div-fits)))
       (λ t. acc0-acc1-uddu (m .tf) (m .p0) (m .v0) (m .a0) (m .pf) (m .vf) (m .af) a-max a-min j-max numbers jf f-jf)
 
   -- `time_acc0`, under labels that replace nothing

@@ -1,6 +1,6 @@
 -- The yes of one attempt, and what is known of it: the times that it tried, what `check` was handed and what it left.
--- An attempt is known by seven times that fit binary64 and last tf, and whose acceleration after phase 2 is near 0 where
--- the label replaces it (`Timed`). That is all that a move's arrival needs of a formula. Assumes nothing.
+-- An attempt is known by seven times that fit binary64 and last tf, and whose acceleration after phase 2 is near 0
+-- where the label replaces it (`Timed`). That is all that a move's arrival needs of a formula. Assumes nothing.
 use mathlib.Core.Path.{_≡_, sym, _∙_, subst}
 use mathlib.Core.Bool.{true, false}
 use Prim.Native.Nat.{ℕ}

@@ -1,8 +1,8 @@
--- Demand 3. For every shape, whatever the quartics and the root answers hold, a yes is a move that arrives: the seven times
--- and jerks of the record carry the exact motion from the start to the goal, in the duration and within the limits.
--- The solver and the record share one start (`Starts`), as they do for every line; the twelve numbers are finite
--- (`Numbers`); and of the size of the move no more is asked than the demand does (`Within`).
--- The attempts come down to one theorem about `check`, in crates/profile_arrives, and to eleven facts about times, in
+-- Demand 3. For every shape, whatever the quartics and the root answers hold, a yes is a move that arrives: the seven
+-- times and jerks of the record carry the exact motion from the start to the goal, in the duration and within the
+-- limits. The solver and the record share one start (`Starts`), as they do for every line; the twelve numbers are
+-- finite (`Numbers`); and of the size of the move no more is asked than the demand does (`Within`). The attempts come
+-- down to one theorem about `check`, in crates/profile_arrives, and to eleven facts about times, in
 -- crates/step2_times. Assumes nothing.
 use mathlib.Core.Path.{_≡_}
 use mathlib.Core.Bool.{Bool, true, false, cond}
@@ -49,7 +49,8 @@ module _ {m : Move} where
       (tried-fit (getD p 0 nan) (getD p 1 nan) (getD p 2 nan) (getD p 3 nan) answer fits)
 
   -- the roots of one quartic, then of another
-  known-both : (f g : Float → Trial) → ((x : Float) → Fits64 x → Known m (f x)) → ((x : Float) → Fits64 x → Known m (g x))
+  known-both : (f g : Float → Trial) → ((x : Float) → Fits64 x → Known m (f x))
+      → ((x : Float) → Fits64 x → Known m (g x))
       → (q : Quartics) (first second : RootAnswer) → AnswerFits first → AnswerFits second
       → Every (Known m) (overRoots f (q .uddu) first ++ overRoots g (q .udud) second)
   known-both f g h k q first second fits fits' =
@@ -73,8 +74,8 @@ module _ {m : Move} (n : Numbers m) (first second : RootAnswer) (f : AnswerFits 
   attempts-known Acc0 q = (acc0-first-known n, (acc0-second-known n, (acc0-third-known n, tt)))
 
 -- ---- every shape, with quartics of any coefficients
-module _ (shape : Shape) (quartics : Quartics) (first second : RootAnswer) (f : AnswerFits first) (g : AnswerFits second)
-    {m : Move} (n : Numbers m) where
+module _ (shape : Shape) (quartics : Quartics) (first second : RootAnswer) (f : AnswerFits first)
+    (g : AnswerFits second) {m : Move} (n : Numbers m) where
   abbrev of-m : Profile → Checked
   of-m = shapeOf shape (solverOf m) (limitsOf m) quartics first second
 
@@ -113,7 +114,8 @@ module _ (shape : Shape) (first second : RootAnswer) (f : AnswerFits first) (g :
     pub shape-made : Made m (asked shape first second m q .profile)
     shape-made = any-made shape own first second f g n q s accepted
 
-    pub shape-arrives : Within (asked shape first second m q .profile) → Demand3 m (asked shape first second m q .profile)
+    pub shape-arrives : Within (asked shape first second m q .profile)
+        → Demand3 m (asked shape first second m q .profile)
     shape-arrives = any-arrives shape own first second f g n q s accepted
 
     pub shape-arrives-closely : Within (asked shape first second m q .profile)

@@ -1,5 +1,5 @@
--- What trials in turn make of a profile: they leave start and goal as they were, after a no as after a yes, and a yes was
--- made by one of them, of whose times enough is known (`Known`). Assumes nothing.
+-- What trials in turn make of a profile: they leave start and goal as they were, after a no as after a yes, and a yes
+-- was made by one of them, of whose times enough is known (`Known`). Assumes nothing.
 use mathlib.Core.Path.{_≡_, refl, sym}
 use mathlib.Core.Bool.{Bool, true, false, cond, not, true≢false}
 use mathlib.Core.List.{List, [], _∷_}

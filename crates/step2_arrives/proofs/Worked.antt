@@ -64,9 +64,9 @@ left = asked Acc0Acc1Vel none none move (fresh move) .profile
 -- all of it computes
 met : (asked Acc0Acc1Vel none none move (fresh move) .ok ≡ true) × Within left × Numbers move
 unfolding triedOf tryOf acc0Acc1VelUddu acc0Acc1VelUdduApplies acc0Acc1VelUdduRadicand acc0Acc1VelUdduH1
-    acc0Acc1VelUdduT1 acc0Acc1VelUdduTimes newOf attemptOf boundaryOf checkOf sumsOf sumStep run refusedOf testsOf jerksOf
-    phaseOf nodeOf replacedOf zeroInsideOf integrateOf bandOf arrivedOf keptOf absOf sqrtOf ofBits neg add sub mul div lt
-    le fits unit mag sign val lasts
+    acc0Acc1VelUdduT1 acc0Acc1VelUdduTimes newOf attemptOf boundaryOf checkOf sumsOf sumStep run refusedOf testsOf
+    jerksOf phaseOf nodeOf replacedOf zeroInsideOf integrateOf bandOf arrivedOf keptOf absOf sqrtOf ofBits neg add sub
+    mul div lt le fits unit mag sign val lasts
 met = (
   refl,
   record {

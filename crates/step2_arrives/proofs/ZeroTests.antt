@@ -1,6 +1,6 @@
--- The test that `check` makes inside a phase: a yes says of every phase from 2 on that the velocity where the recorded
--- acceleration passes through 0 keeps its limits, wherever `check` tests it. It is stated of the record that is left, so
--- that it can be used beside `Yes` of crates/profile_arrives. Assumes nothing.
+-- The test that `check` makes inside a phase: a yes says of every phase from 2 on that the velocity where the
+-- recorded acceleration passes through 0 keeps its limits, wherever `check` tests it. It is stated of the record that
+-- is left, so that it can be used beside `Yes` of crates/profile_arrives. Assumes nothing.
 use mathlib.Core.Path.{_≡_, refl, sym, ap, _∙_, subst}
 use mathlib.Core.Bool.{Bool, true, false, cond, not, _&&_, _||_, true≢false}
 use mathlib.Core.Logic.{inl, inr}
