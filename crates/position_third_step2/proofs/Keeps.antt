@@ -1,5 +1,5 @@
--- `check` and every shape leave seven times, sums and jerks, and eight accelerations, velocities and positions, where there
--- were as many: after a no as after a yes. Assumes nothing.
+-- `check` and every shape leave seven times, sums and jerks, and eight accelerations, velocities and positions, where
+-- there were as many: after a no as after a yes. Assumes nothing.
 use mathlib.Core.Path.{_≡_, refl, _∙_}
 use mathlib.Core.Bool.{Bool, true, false, cond, not, _||_}
 use mathlib.Core.List.{List, [], _∷_}
@@ -115,7 +115,8 @@ keeps-cond : (b : Bool) {c d : Checked} → Leaves c → Leaves d → Leaves (co
 keeps-cond true h k = h
 keeps-cond false h k = k
 
-pub check-keeps : (signs : ControlSigns) (limits : ReachedLimits) (set-limits : Bool) (jf v-max v-min a-max a-min : Float)
+pub check-keeps : (signs : ControlSigns) (limits : ReachedLimits) (set-limits : Bool)
+    (jf v-max v-min a-max a-min : Float)
     → Keeps (checkOf signs limits set-limits jf v-max v-min a-max a-min)
 unfolding checkOf
 check-keeps signs limits set-limits jf v-max v-min a-max a-min q h =
@@ -129,7 +130,8 @@ check-keeps signs limits set-limits jf v-max v-min a-max a-min q h =
     let hn = phases tests set-limits a-max a-min band (q .t) j (nodesOf q) (nodes h) in
     keeps-cond (not (s .ok) || refusedOf tests (q .t) (s .left))
     (record { lengths = parts (h .seven-t) hs (h .seven-j) (nodes h) })
-    (keeps-cond (n .ok) (record { lengths = parts (h .seven-t) hs hj hn }) (record { lengths = parts (h .seven-t) hs hj hn }))
+    (keeps-cond (n .ok) (record { lengths = parts (h .seven-t) hs hj hn })
+    (record { lengths = parts (h .seven-t) hs hj hn }))
 
 -- ---- a trial, and trials in turn, whatever they try
 try-keeps : (l : Limits) (k : Trial) → Keeps (tryOf l k)
