@@ -21,12 +21,12 @@ use Rattle.profile.specs.declared.Profile.{Profile}
 use Rattle.profile.specs.Labels.{testsOf}
 use Rattle.profile.specs.Check.{checkOf}
 use Rattle.rounding.specs.Exact.{D, signed, Below, Same}
-use Rattle.rounding.specs.Value.{unit}
+use Rattle.rounding.specs.Value.{unit, Number}
 use Rattle.rounding.specs.Motion.{lasts, elapsed}
-use Rattle.rounding.specs.Step.{Node, nextA, Replaced}
+use Rattle.rounding.specs.Step.{Node, stepOf, Replaced}
 use Rattle.rounding.specs.Run.{Run, Recorded}
 use Rattle.rounding.proofs.Run.{recorded}
-use Rattle.profile_arrives.specs.Reply.{time, jerk, node, exact, after, upper, lower, Held, Number, Within, Residual}
+use Rattle.profile_arrives.specs.Reply.{time, jerk, node, exact, after, upper, lower, Held, Within, Residual}
 use Rattle.profile_arrives.specs.Arrives.{Arrives, demanded, proved}
 use Rattle.profile_arrives.proofs.Yes.{Yes, check-yes, held-left}
 use Rattle.profile_arrives.proofs.Facts.{end-p, end-v, end-a, end-finite, held-jerk, total-is, limits-kept}
@@ -43,9 +43,9 @@ in-time : (s : D) (e m : ℕ) → Same s (signed false e) → Below s (signed fa
 in-time s e m h k = omega arith
 
 module _ {signs : ControlSigns} {limits : ReachedLimits} {jf v-max v-min a-max a-min : Float} {q q' : Profile} (y : Yes signs limits jf v-max v-min a-max a-min q q') (h : Held q) (fj : T (fits binary64 jf)) where
-  next-a : (r : ℕ) → Residual r limits q' → (i : ℕ) → i < 7 → (node q' (suc i) .a ≡ nextA (time q' i) (node q' i .a) (jerk q' i)) ⊎ Replaced r (node q' (suc i) .a) (after q' i .a)
+  next-a : (r : ℕ) → Residual r limits q' → (i : ℕ) → i < 7 → (node q' (suc i) .a ≡ stepOf (time q' i) (jerk q' i) (node q' i) .a) ⊎ Replaced r (node q' (suc i) .a) (after q' i .a)
   next-a r z i l =
-      elim (chosen (testsOf limits .a3) (eqb i 2) (node q' (suc i) .a) (nextA (time q' i) (node q' i .a) (jerk q' i)) #0 (ap (λ (n : Node). n .a) (y .step i l))) [
+      elim (chosen (testsOf limits .a3) (eqb i 2) (node q' (suc i) .a) (stepOf (time q' i) (jerk q' i) (node q' i) .a) #0 (ap (λ (n : Node). n .a) (y .step i l))) [
         | inl e ↦ inl e
         | inr w ↦ inr (subst (λ (x : Float). Replaced r x (after q' i .a)) (sym (w .2)) (subst (λ (k : ℕ). Replaced r #0 (after q' k .a)) (sym (eqb→eq i 2 (w .1))) (z (w .0))))
       ]

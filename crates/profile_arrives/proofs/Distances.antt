@@ -10,6 +10,7 @@ use lib.Ieee.{Float, binary64, fits}
 use Rattle.float.specs.Ops.{_⊖_, #1e-8, #1e-10, #1e-12}
 use Rattle.rounding.specs.Exact.{D, signed, Near, Size, Below, _⊞_, _⊙_}
 use Rattle.rounding.specs.Value.{unit, mag, val, Finite}
+use Rattle.rounding.specs.Bounds.{Off}
 use Rattle.rounding.proofs.Linear.{near-sym, near-times, near-trans}
 use Rattle.rounding.proofs.Limits.{difference-near}
 use Rattle.rounding.proofs.Literals.{mag-1e-8, mag-1e-10, mag-1e-12}
@@ -78,14 +79,17 @@ hardly : (d : ℕ) (a b : D) (e m : ℕ) → Below a (b ⊞ signed false e) → 
 hardly d a b e m h l = omega (arith, mul-le-mul-left d h)
 
 -- ---- x is recorded for X, and X is within c times 2 ^ -53 of it
-module _ (K : ℕ) (x : Float) (X : D) (err c : ℕ) (n : Near (K ⊙ val x) X err) (b : err * 2 ^ 53 ≤ c * (K * unit)) where
+module _ (K : ℕ) (x : Float) (X : D) (c : ℕ) (o : Off (K * unit) (K ⊙ val x) X c) where
   -- x - f, rounded, is a tolerance M at most
-  pub lands : (f : Float) (M q C : ℕ) → T (fits binary64 x) → T (fits binary64 f) → Finite (x ⊖ f) → Size (val (x ⊖ f)) M → M * (q * 2 ^ 53) ≤ (2 ^ 53 + 1) * unit → T (leb 2 q) → c + 1 + 1 ≤ C → At (part q C) K X f
+  pub lands : (f : Float) (M q C : ℕ) → T (fits binary64 x) → T (fits binary64 f) → Finite (x ⊖ f) → Size (val (x ⊖ f)) M
+      → M * (q * 2 ^ 53) ≤ (2 ^ 53 + 1) * unit → T (leb 2 q) → c + 1 + 1 ≤ C → At (part q C) K X f
   lands f M q C fx ff h s m z l =
       let d = difference-near x f M fx ff h s in
-      nearly (q * 2 ^ 53) X (K ⊙ val f) (err + K * (M + d .0)) ((2 ^ 53 + q * C) * (K * unit))
-      (near-trans X (K ⊙ val x) (K ⊙ val f) err (K * (M + d .0)) (near-sym (K ⊙ val x) X err n) (near-times K (val x) (val f) (M + d .0) (d .1)))
-      (together K unit (2 ^ 53) M q c 1 C (d .0) err (one-of q (leb→le 2 q z)) m (le-trans (d .2) (once M unit (at-most-one M q (2 ^ 53) unit (leb→le 2 q z) (lit≤ tt) m))) b l)
+      let e = le-trans (d .2) (once M unit (at-most-one M q (2 ^ 53) unit (leb→le 2 q z) (lit≤ tt) m)) in
+      nearly (q * 2 ^ 53) X (K ⊙ val f) (o .err + K * (M + d .0)) ((2 ^ 53 + q * C) * (K * unit))
+      (near-trans X (K ⊙ val x) (K ⊙ val f) (o .err) (K * (M + d .0)) (near-sym (K ⊙ val x) X (o .err) (o .near))
+      (near-times K (val x) (val f) (M + d .0) (d .1)))
+      (together K unit (2 ^ 53) M q c 1 C (d .0) (o .err) (one-of q (leb→le 2 q z)) m e (o .bound) l)
     where
       one-of : (q : ℕ) → 2 ≤ q → 1 ≤ q
       one-of q h = omega arith
@@ -94,22 +98,30 @@ module _ (K : ℕ) (x : Float) (X : D) (err c : ℕ) (n : Near (K ⊙ val x) X e
       once M U h = omega arith
 
   module _ (l : Float) (M q C R : ℕ) (m : M * (q * 2 ^ 53) ≤ (2 ^ 53 + 1) * unit) (z : T (leb 1 q)) (k : c + (R + 1) + 1 ≤ C) where
-    reaches : (e : ℕ) → e * 2 ^ 53 ≤ (R + 1) * unit → (err + K * (M + e)) * (q * 2 ^ 53) ≤ (2 ^ 53 + q * C) * (K * unit)
-    reaches e h = together K unit (2 ^ 53) M q c (R + 1) C e err (leb→le 1 q z) m h b k
+    reaches : (e : ℕ) → e * 2 ^ 53 ≤ (R + 1) * unit → (o .err + K * (M + e)) * (q * 2 ^ 53) ≤ (2 ^ 53 + q * C) * (K * unit)
+    reaches e h = together K unit (2 ^ 53) M q c (R + 1) C e (o .err) (leb→le 1 q z) m h (o .bound) k
 
     scaled : (K : ℕ) (x y : D) (M : ℕ) → Below x (y ⊞ signed false M) → Below (K ⊙ x) (K ⊙ y ⊞ signed false (K * M))
     scaled K x y M h = omega (arith, mul-le-mul-left K h)
 
     -- x is above the limit l by M and a small e at most
-    pub not-over : (e : ℕ) × Below (val x) (val l ⊞ signed false (M + e)) × (e * 2 ^ 53 ≤ (R + 1) * unit) → Below ((q * 2 ^ 53) ⊙ X) ((q * 2 ^ 53) ⊙ (K ⊙ val l) ⊞ signed false ((2 ^ 53 + q * C) * (K * unit)))
-    not-over w = hardly (q * 2 ^ 53) X (K ⊙ val l) (err + K * (M + w .0)) ((2 ^ 53 + q * C) * (K * unit)) (moved (K ⊙ val x) X (K ⊙ val l) (K * (M + w .0)) err n (scaled K (val x) (val l) (M + w .0) (w .1))) (reaches (w .0) (w .2))
+    pub not-over : (e : ℕ) × Below (val x) (val l ⊞ signed false (M + e)) × (e * 2 ^ 53 ≤ (R + 1) * unit)
+        → Below ((q * 2 ^ 53) ⊙ X) ((q * 2 ^ 53) ⊙ (K ⊙ val l) ⊞ signed false ((2 ^ 53 + q * C) * (K * unit)))
+    not-over w =
+        hardly (q * 2 ^ 53) X (K ⊙ val l) (o .err + K * (M + w .0)) ((2 ^ 53 + q * C) * (K * unit))
+        (moved (K ⊙ val x) X (K ⊙ val l) (K * (M + w .0)) (o .err) (o .near) (scaled K (val x) (val l) (M + w .0) (w .1)))
+        (reaches (w .0) (w .2))
       where
         moved : (x X l : D) (M e : ℕ) → Near x X e → Below x (l ⊞ signed false M) → Below X (l ⊞ signed false (e + M))
         moved x X l M e n h = omega arith
 
     -- or below it
-    pub not-under : (e : ℕ) × Below (val l) (val x ⊞ signed false (M + e)) × (e * 2 ^ 53 ≤ (R + 1) * unit) → Below ((q * 2 ^ 53) ⊙ (K ⊙ val l)) ((q * 2 ^ 53) ⊙ X ⊞ signed false ((2 ^ 53 + q * C) * (K * unit)))
-    not-under w = hardly (q * 2 ^ 53) (K ⊙ val l) X (err + K * (M + w .0)) ((2 ^ 53 + q * C) * (K * unit)) (moved (K ⊙ val x) X (K ⊙ val l) (K * (M + w .0)) err n (scaled K (val l) (val x) (M + w .0) (w .1))) (reaches (w .0) (w .2))
+    pub not-under : (e : ℕ) × Below (val l) (val x ⊞ signed false (M + e)) × (e * 2 ^ 53 ≤ (R + 1) * unit)
+        → Below ((q * 2 ^ 53) ⊙ (K ⊙ val l)) ((q * 2 ^ 53) ⊙ X ⊞ signed false ((2 ^ 53 + q * C) * (K * unit)))
+    not-under w =
+        hardly (q * 2 ^ 53) (K ⊙ val l) X (o .err + K * (M + w .0)) ((2 ^ 53 + q * C) * (K * unit))
+        (moved (K ⊙ val x) X (K ⊙ val l) (K * (M + w .0)) (o .err) (o .near) (scaled K (val l) (val x) (M + w .0) (w .1)))
+        (reaches (w .0) (w .2))
       where
         moved : (x X l : D) (M e : ℕ) → Near x X e → Below l (x ⊞ signed false M) → Below l (X ⊞ signed false (e + M))
         moved x X l M e n h = omega arith

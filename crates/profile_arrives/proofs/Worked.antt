@@ -21,9 +21,9 @@ use Rattle.profile.specs.Limit.{bandOf}
 use Rattle.profile.specs.Phase.{replacedOf, zeroInsideOf, nodeOf, phaseOf}
 use Rattle.profile.specs.Check.{arrivedOf, keptOf, checkOf}
 use Rattle.rounding.specs.Exact.{Size}
-use Rattle.rounding.specs.Value.{unit, mag, sign, val}
+use Rattle.rounding.specs.Value.{unit, mag, sign, val, Number}
 use Rattle.rounding.specs.Motion.{motion, lasts}
-use Rattle.profile_arrives.specs.Reply.{time, jerk, Held, Number, Within, Residual}
+use Rattle.profile_arrives.specs.Reply.{time, jerk, Held, Within, Residual}
 use Rattle.profile_arrives.specs.Arrives.{Arrives, demanded}
 use Rattle.profile_arrives.proofs.Steps.{by-seven}
 use Rattle.profile_arrives.proofs.CheckArrives.{reply, check-arrives}
@@ -72,11 +72,11 @@ met = (
         (record { over = lit≤ tt; under = lit≤ tt }) (record { over = lit≤ tt; under = lit≤ tt }) (record { over = lit≤ tt; under = lit≤ tt });
   },
   λ h. record { held = tt; err = 0; near = record { over = lit≤ tt; under = lit≤ tt }; bound = lit≤ tt },
-  (tt, tt),
-  (tt, tt),
-  (tt, tt),
-  (tt, tt),
+  record { held = tt; finite = tt },
+  record { held = tt; finite = tt },
+  record { held = tt; finite = tt },
+  record { held = tt; finite = tt },
 )
 
 pub move-arrives : Arrives demanded #2 (neg #2) #1 (neg #1) left
-move-arrives = check-arrives UDDU Acc0Acc1Vel #1 #2 (neg #2) #1 (neg #1) asked held (met .3 .0) (met .4) (met .6) (met .3) (met .5) (met .0) 0 (lit≤ tt) (met .1) (met .2)
+move-arrives = check-arrives UDDU Acc0Acc1Vel #1 #2 (neg #2) #1 (neg #1) asked held (met .3 .held) (met .4) (met .6) (met .3) (met .5) (met .0) 0 (lit≤ tt) (met .1) (met .2)

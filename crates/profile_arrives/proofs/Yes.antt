@@ -9,7 +9,6 @@ use lib.Dec.{T, eqb}
 use lib.ListN.{getD, set}
 use lib.Ieee.{Float, nan, binary64, lt, fits}
 use Rattle.float.specs.Ops.{_⊕_, #0}
-use Rattle.util.specs.Integrate.{integrateOf}
 use Rattle.profile.specs.declared.ReachedLimits.{ReachedLimits}
 use Rattle.profile.specs.declared.ControlSigns.{ControlSigns}
 use Rattle.profile.specs.declared.tests.Tests.{Tests}
@@ -23,13 +22,13 @@ use Rattle.profile.specs.Times.{sumStep, sumsOf, refusedOf}
 use Rattle.profile.specs.Limit.{directionOf, bandOf}
 use Rattle.profile.specs.Phase.{Nodes, replacedOf, nodeOf, phaseOf}
 use Rattle.profile.specs.Check.{profileOf, nodesOf, goalOf, labelsOf, labels, arrivedOf, keptOf, checkOf}
-use Rattle.rounding.specs.Step.{Node, nextA, nextV, nextP}
+use Rattle.rounding.specs.Step.{Node, stepOf}
 use Rattle.profile_arrives.specs.Reply.{time, jerk, node, Held}
 use Rattle.profile_arrives.proofs.Steps.{at, stored, Eight, Begins, each-yes, begins, follows}
 
 -- the node after phase i, as `check` records it without set_limits: 0 in the place of a[3] where the label says so
 abbrev pub stepped : Tests → ℕ → Float → Float → Node → Node
-stepped m i t j s = record { a = cond (m .a3 && eqb i 2) #0 (nextA t (s .a) j); v = nextV t (s .v) (s .a) j; p = nextP t (s .p) (s .v) (s .a) j }
+stepped m i t j s = record { a = cond (m .a3 && eqb i 2) #0 (stepOf t j s .a); v = stepOf t j s .v; p = stepOf t j s .p }
 
 -- the times, the goal and the start
 pub record Carried (q q' : Profile) : Type 0 where
@@ -89,10 +88,12 @@ times-yes t s h (suc i) l =
 -- ---- the phases
 module _ (m : Tests) (set-limits : Bool) (a-max a-min : Float) (b : Band) (t j : List Float) where
   abbrev next : ℕ → Node → Node
-  next i s = let w = stepped m i (getD t i nan) (getD j i nan) s in record { a = replacedOf m set-limits a-max a-min i (nextA (getD t i nan) (s .a) (getD j i nan)); v = w .v; p = w .p }
+  next i s =
+      let w = stepOf (getD t i nan) (getD j i nan) s in
+      record { a = replacedOf m set-limits a-max a-min i (w .a); v = w .v; p = w .p }
 
   phase-is : (i : ℕ) (n : Nodes) → phaseOf m set-limits a-max a-min b t j i n .left ≡ stored n (i + 1) (next i (at n i))
-  unfolding phaseOf nodeOf integrateOf
+  unfolding phaseOf nodeOf
   phase-is i n = refl
 
   phases-begin : (n : Nodes) → Eight n → Begins n (run (phaseOf m set-limits a-max a-min b t j) 7 0 n .left)

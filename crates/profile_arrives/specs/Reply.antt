@@ -10,7 +10,7 @@ use Rattle.profile.specs.declared.ReachedLimits.{ReachedLimits}
 use Rattle.profile.specs.declared.Profile.{Profile}
 use Rattle.profile.specs.Labels.{testsOf}
 use Rattle.rounding.specs.Exact.{Size, Below, signed}
-use Rattle.rounding.specs.Value.{unit, val, Finite}
+use Rattle.rounding.specs.Value.{unit, val}
 use Rattle.rounding.specs.Motion.{Moving, motion, lasts}
 use Rattle.rounding.specs.Step.{Node, from, Replaced}
 
@@ -52,10 +52,6 @@ pub record Held (q : Profile) : Type 0 where
   pub held-pf : T (fits binary64 (q .pf))
   pub held-vf : T (fits binary64 (q .vf))
   pub held-af : T (fits binary64 (q .af))
-
--- a finite f64
-abbrev pub Number : Float → Type 0
-Number x = T (fits binary64 x) × Finite x
 
 -- Starting position, velocity and acceleration of at most 8 in size, exact total time at most 8, recorded jerks at most 64 in size.
 -- `val` takes a NaN and an infinity for 0. There is none here after a yes: `yes-finite` in proofs/Facts.antt.

@@ -219,6 +219,14 @@ val-size x = go (sign x) (mag x)
     go true k = omega arith
     go false k = omega arith
 
+pub size-mag : (x : Float) (M : ℕ) → Size (val x) M → mag x ≤ M
+unfolding val
+size-mag x M s = go (sign x) (mag x) s
+  where
+    go : (s : Bool) (k : ℕ) → Size (signed s k) M → k ≤ M
+    go true k h = omega arith
+    go false k h = omega arith
+
 pub mag-sum : (x : Float) → val x .p + val x .n ≡ mag x
 unfolding val
 mag-sum x = go (sign x) (mag x)

@@ -9,8 +9,9 @@ use lib.IntN.{pos, negsuc}
 use lib.Dec.{lit≤}
 use lib.Pow.{pow-pos}
 use lib.Ieee.{fin, binary64, ofBits}
+use Rattle.float.specs.Ops.{#0, #2, #6, #ε, #1e-12, #1e-10, #1e-8}
 use Rattle.rounding.specs.Exact.{nought, signed}
-use Rattle.rounding.specs.Value.{unit, mag, sign, val}
+use Rattle.rounding.specs.Value.{unit, mag, sign, val, Finite}
 use Rattle.rounding.proofs.Unit.{mag-pos, mag-negsuc}
 
 whole : (s : Bool) (m k : ℕ) → val (fin s m (pos k)) ≡ signed s (m * 2 ^ k * unit)
@@ -32,6 +33,10 @@ pub val-0 : val (ofBits binary64 0) ≡ nought
 unfolding ofBits
 val-0 = whole false 0 0 ∙ ap (λ (z : ℕ). signed false z) (zero-mul unit)
 
+pub finite-0 : Finite #0
+unfolding ofBits
+finite-0 = tt
+
 pub val-1 : val (ofBits binary64 0x3FF0_0000_0000_0000) ≡ signed false (1 * unit)
 unfolding ofBits
 val-1 = whole false 1 0
@@ -39,6 +44,10 @@ val-1 = whole false 1 0
 pub val-2 : val (ofBits binary64 0x4000_0000_0000_0000) ≡ signed false (2 * unit)
 unfolding ofBits
 val-2 = whole false 1 1
+
+pub finite-2 : Finite #2
+unfolding ofBits
+finite-2 = tt
 
 pub val-3 : val (ofBits binary64 0x4008_0000_0000_0000) ≡ signed false (3 * unit)
 unfolding ofBits
@@ -51,6 +60,10 @@ val-4 = whole false 1 2
 pub val-6 : val (ofBits binary64 0x4018_0000_0000_0000) ≡ signed false (6 * unit)
 unfolding ofBits
 val-6 = whole false 3 1
+
+pub finite-6 : Finite #6
+unfolding ofBits
+finite-6 = tt
 
 pub val-8 : val (ofBits binary64 0x4020_0000_0000_0000) ≡ signed false (8 * unit)
 unfolding ofBits
@@ -90,6 +103,10 @@ mag-1e-8 = mag-negsuc false 3022314549036573 77 (lit≤ tt)
 pub most-1e-8 : mag (ofBits binary64 0x3E45_798E_E230_8C3A) * 99999999 ≤ unit
 most-1e-8 = at-most (mag (ofBits binary64 0x3E45_798E_E230_8C3A)) 99999999 3022314549036573 (2 ^ 78) unit (pow-pos 78) mag-1e-8 (lit≤ tt)
 
+pub finite-1e-8 : Finite #1e-8
+unfolding ofBits
+finite-1e-8 = tt
+
 pub val-1e-10 : val (ofBits binary64 0x3DDB_7CDF_D9D7_BDBB) ≡ signed false (mag (ofBits binary64 0x3DDB_7CDF_D9D7_BDBB))
 unfolding ofBits
 val-1e-10 = part false 7737125245533627 85
@@ -100,6 +117,10 @@ mag-1e-10 = mag-negsuc false 7737125245533627 85 (lit≤ tt)
 
 pub most-1e-10 : mag (ofBits binary64 0x3DDB_7CDF_D9D7_BDBB) * 9999999999 ≤ unit
 most-1e-10 = at-most (mag (ofBits binary64 0x3DDB_7CDF_D9D7_BDBB)) 9999999999 7737125245533627 (2 ^ 86) unit (pow-pos 86) mag-1e-10 (lit≤ tt)
+
+pub finite-1e-10 : Finite #1e-10
+unfolding ofBits
+finite-1e-10 = tt
 
 pub val-1e-12 : val (ofBits binary64 0x3D71_9799_812D_EA11) ≡ signed false (mag (ofBits binary64 0x3D71_9799_812D_EA11))
 unfolding ofBits
@@ -112,6 +133,10 @@ mag-1e-12 = mag-negsuc false 4951760157141521 91 (lit≤ tt)
 pub most-1e-12 : mag (ofBits binary64 0x3D71_9799_812D_EA11) * 999999999999 ≤ unit
 most-1e-12 = at-most (mag (ofBits binary64 0x3D71_9799_812D_EA11)) 999999999999 4951760157141521 (2 ^ 92) unit (pow-pos 92) mag-1e-12 (lit≤ tt)
 
+pub finite-1e-12 : Finite #1e-12
+unfolding ofBits
+finite-1e-12 = tt
+
 pub val-eps : val (ofBits binary64 0x3CB0_0000_0000_0000) ≡ signed false (mag (ofBits binary64 0x3CB0_0000_0000_0000))
 unfolding ofBits
 val-eps = part false 1 51
@@ -122,3 +147,7 @@ mag-eps = mag-negsuc false 1 51 (lit≤ tt)
 
 pub most-eps : mag (ofBits binary64 0x3CB0_0000_0000_0000) * 4503599627370496 ≤ unit
 most-eps = at-most (mag (ofBits binary64 0x3CB0_0000_0000_0000)) 4503599627370496 1 (2 ^ 52) unit (pow-pos 52) mag-eps (lit≤ tt)
+
+pub finite-eps : Finite #ε
+unfolding ofBits
+finite-eps = tt

@@ -14,6 +14,9 @@ use Rattle.rounding.specs.Motion.{motion, state}
 use Rattle.rounding.specs.Step.{Replaced}
 use Rattle.rounding.proofs.Operands.{sub-finite, mul-finite, div-finite}
 use Rattle.rounding.proofs.Limits.{in-parts}
+use Rattle.rounding.proofs.Sizes.{about}
+use Rattle.rounding.proofs.Negations.{about-neg}
+use Rattle.rounding.proofs.Sums.{sum-back, on-sum}
 use Rattle.step2_solver.specs.declared.Times.{Times}
 use Rattle.step2_solver.specs.New.{newOf}
 use Rattle.step2_solver.specs.TimeAcc0Acc1Vel.{acc0Acc1VelUdduTimes, acc0Acc1VelUdudTimes}
@@ -22,7 +25,6 @@ use Rattle.step2_solver.specs.TimeAcc0.{acc0FirstTimes, acc0SecondTimes, acc0Th
 use Rattle.step2_solver_quartic.specs.TimeAcc1Vel.{acc1VelUdduTimes, acc1VelUdudTimes}
 use Rattle.step2_solver_quartic.specs.TimeAcc0Vel.{acc0VelUdduTimes, acc0VelUdudTimes}
 use Rattle.step2_times.specs.Facts.{Numbers, Accepted, roundings, Lasts, Jerks, residual, Replaces}
-use Rattle.step2_times.proofs.Scale.{about, about-neg, on-sum}
 use Rattle.step2_times.proofs.Within.{within, more, more'}
 use Rattle.step2_times.proofs.Less.{acc0-acc1-vel-uddu-lasts, acc0-acc1-vel-udud-lasts, acc0-acc1-rest-lasts, acc0-acc1-uddu-lasts, acc0-second-lasts, acc0-third-lasts}
 use Rattle.step2_times.proofs.Quotients.{acc1-vel-uddu-lasts, acc1-vel-udud-lasts, acc0-vel-uddu-lasts, acc0-vel-udud-lasts, acc0-first-lasts}
@@ -49,7 +51,7 @@ module _ (tf p0 v0 a0 pf vf af a-max a-min j-max : Float) (n : Numbers tf a0 af 
   up-down : {x : Times} → Accepted t x → t 0 ≡ (neg a0 ⊕ a-max) ⊘ j-max → t 2 ≡ a-max ⊘ j-max → (j : ℕ → Float) (p v : Float) → Jerks j-max t j → Replaced residual #0 (motion t j (state p v a0) 3 .a)
   up-down a e0 e2 j p v h =
       ramps a h p v a0 (n .of-j-max) (neg a0 ⊕ a-max) a-max (add-fits binary64 (neg a0) a-max) (n .of-a-max .held)
-      (λ S R z. on-sum (about-neg (about S a0 (n .of-a0 .held))) (about S a-max (n .of-a-max .held)) z .about) (swapped (opposite (val a0)) (val a-max)) e0 e2
+      (λ S R z. on-sum (about-neg (about S a0 (n .of-a0 .held))) (about S a-max (n .of-a-max .held)) z) (swapped (opposite (val a0)) (val a-max)) e0 e2
 
   -- ---- `time_acc0_acc1_vel`
   pub acc0-acc1-vel-uddu : (h1 t1 : Float) → Accepted t (acc0Acc1VelUdduTimes (newOf tf p0 v0 a0 pf vf af j-max) a-max a-min j-max h1 t1) → Replaces t tf a0 j-max
@@ -75,7 +77,7 @@ module _ (tf p0 v0 a0 pf vf af a-max a-min j-max : Float) (n : Numbers tf a0 af 
             unfold acc1VelUdduTimes newOf in
             (let w = within a in
             coasts a h p v a0 (n .of-j-max) r (a0 ⊘ j-max ⊕ r) (n .of-a0 .held)
-            (λ R z. on-sum (about unit (a0 ⊘ j-max) (div-fits binary64 a0 j-max)) (about unit r (w .t0 .held)) z .about) (swapped (val (a0 ⊘ j-max)) (val r)) (a .is0) (a .is2) (w .t2) (more' (a0 ⊘ j-max) r (div-fits binary64 a0 j-max) (w .t0) (w .t2) .0));
+            (λ R z. sum-back (a0 ⊘ j-max) r (div-fits binary64 a0 j-max) (w .t0 .held) z) (swapped (val (a0 ⊘ j-max)) (val r)) (a .is0) (a .is2) (w .t2) (more' (a0 ⊘ j-max) r (div-fits binary64 a0 j-max) (w .t0) (w .t2) .0));
       }
 
   pub acc1-vel-udud : (r h1 : Float) → T (fits binary64 h1) → Accepted t (acc1VelUdudTimes (newOf tf p0 v0 a0 pf vf af j-max) a-max j-max r h1) → Replaces t tf a0 j-max
@@ -86,7 +88,7 @@ module _ (tf p0 v0 a0 pf vf af a-max a-min j-max : Float) (n : Numbers tf a0 af 
             unfold acc1VelUdudTimes newOf in
             (let w = within a in
             coasts a h p v a0 (n .of-j-max) r (r ⊕ a0 ⊘ j-max) (n .of-a0 .held)
-            (λ R z. on-sum (about unit r (w .t0 .held)) (about unit (a0 ⊘ j-max) (div-fits binary64 a0 j-max)) z .about) refl (a .is0) (a .is2) (w .t2) (more r (a0 ⊘ j-max) (div-fits binary64 a0 j-max) (w .t0) (w .t2) .0));
+            (λ R z. sum-back r (a0 ⊘ j-max) (w .t0 .held) (div-fits binary64 a0 j-max) z) refl (a .is0) (a .is2) (w .t2) (more r (a0 ⊘ j-max) (div-fits binary64 a0 j-max) (w .t0) (w .t2) .0));
       }
 
   -- ---- `time_acc0_vel`
@@ -120,7 +122,7 @@ module _ (tf p0 v0 a0 pf vf af a-max a-min j-max : Float) (n : Numbers tf a0 af 
         replaced = λ j p v h.
             unfold acc0Acc1UdduTimes newOf sub in
             ramps a h p v a0 (record { held = f; finite = jf-finite tf p0 v0 a0 pf vf af a-max a-min j-max jf (within a .t1 .finite) }) (a-max ⊖ a0) a-max (sub-fits binary64 a-max a0) (n .of-a-max .held)
-            (λ S R z. on-sum (about S a-max (n .of-a-max .held)) (about-neg (about S a0 (n .of-a0 .held))) z .about) refl (a .is0) (a .is2);
+            (λ S R z. on-sum (about S a-max (n .of-a-max .held)) (about-neg (about S a0 (n .of-a0 .held))) z) refl (a .is0) (a .is2);
       }
 
   -- ---- `time_acc0`: labels None, None and Acc0 replace nothing

@@ -7,12 +7,15 @@ use lib.Ieee.Fits.{div-fits, neg-fits}
 use Rattle.float.specs.Ops.{_⊕_, _⊖_, _⊗_, _⊘_, #0, #2}
 use Rattle.rounding.specs.Exact.{D, nought, Same, _⊞_, _⊟_, _⊙_}
 use Rattle.rounding.specs.Value.{val}
+use Rattle.rounding.proofs.Errors.{off-sum}
+use Rattle.rounding.proofs.Sizes.{on}
+use Rattle.rounding.proofs.Sums.{on-add}
+use Rattle.rounding.proofs.Products.{on-twice}
 use Rattle.step2_solver.specs.New.{newOf}
 use Rattle.step2_solver.specs.TimeAcc0Acc1Vel.{acc0Acc1VelUdduTimes, acc0Acc1VelUdudTimes}
 use Rattle.step2_solver.specs.TimeAcc0Acc1.{acc0Acc1RestTimes, acc0Acc1UdduTimes}
 use Rattle.step2_solver.specs.TimeAcc0.{acc0SecondTimes, acc0ThirdTimes}
 use Rattle.step2_times.specs.Facts.{Accepted, Lasts}
-use Rattle.step2_times.proofs.Scale.{on, on-add, on-twice, off-sum}
 use Rattle.step2_times.proofs.Within.{sum, within, lasts-of, zero-none, less, more}
 
 module _ {t : ℕ → Float} (tf : Float) (f : T (fits binary64 tf)) where
@@ -24,7 +27,7 @@ module _ {t : ℕ → Float} (tf : Float) (f : T (fits binary64 tf)) where
       let t5 = less tf f (on-add (on-add (on-add (on-add (on-add (on (w .t0)) (on (w .t1)) tt) (on (w .t2)) tt) (on (w .t3)) tt) (on-twice (w .t4) tt) tt) (on (t6 .0)) tt) (w .t5) in
       lasts-of a (off-sum t5 (t6 .1)) (identity (val t0) (val t1) (val t2) (val t3) (val t4) (val (tf ⊖ (t0 ⊕ t1 ⊕ t2 ⊕ t3 ⊕ #2 ⊗ t4 ⊕ y))) (val (t4 ⊕ y)) (val y) (val tf)) tt
     where
-      identity : (t0 t1 t2 t3 t4 t5 t6 q f : D) → Same ((t5 ⊟ (f ⊟ (t0 ⊞ t1 ⊞ t2 ⊞ t3 ⊞ 2 ⊙ t4 ⊞ q))) ⊞ (t6 ⊟ (t4 ⊞ q))) (sum t0 t1 t2 t3 t4 t5 t6 ⊟ f)
+      identity : (t0 t1 t2 t3 t4 t5 t6 q f : D) → Same (t5 ⊞ t6 ⊟ (f ⊟ (t0 ⊞ t1 ⊞ t2 ⊞ t3 ⊞ 2 ⊙ t4 ⊞ q) ⊞ (t4 ⊞ q))) (sum t0 t1 t2 t3 t4 t5 t6 ⊟ f)
       identity t0 t1 t2 t3 t4 t5 t6 q f = omega arith
 
   -- `time_acc0_acc1`: there is no phase 3
@@ -35,7 +38,7 @@ module _ {t : ℕ → Float} (tf : Float) (f : T (fits binary64 tf)) where
       let t5 = less tf f (on-add (on-add (on-add (on-add (on (w .t0)) (on (w .t1)) tt) (on (w .t2)) tt) (on-twice (w .t4) tt) tt) (on (t6 .0)) tt) (w .t5) in
       lasts-of a (off-sum t5 (t6 .1)) (identity (val t0) (val t1) (val t2) (val #0) (val t4) (val (tf ⊖ (t0 ⊕ t1 ⊕ t2 ⊕ #2 ⊗ t4 ⊕ y))) (val (t4 ⊕ y)) (val y) (val tf) zero-none) tt
     where
-      identity : (t0 t1 t2 t3 t4 t5 t6 q f : D) → Same t3 nought → Same ((t5 ⊟ (f ⊟ (t0 ⊞ t1 ⊞ t2 ⊞ 2 ⊙ t4 ⊞ q))) ⊞ (t6 ⊟ (t4 ⊞ q))) (sum t0 t1 t2 t3 t4 t5 t6 ⊟ f)
+      identity : (t0 t1 t2 t3 t4 t5 t6 q f : D) → Same t3 nought → Same (t5 ⊞ t6 ⊟ (f ⊟ (t0 ⊞ t1 ⊞ t2 ⊞ 2 ⊙ t4 ⊞ q) ⊞ (t4 ⊞ q))) (sum t0 t1 t2 t3 t4 t5 t6 ⊟ f)
       identity t0 t1 t2 t3 t4 t5 t6 q f z = omega arith
 
   rest-lasts : (t0 t1 t4 : Float) → Accepted t (record { t0 = t0; t1 = t1; t2 = t0; t3 = #0; t4 = t4; t5 = tf ⊖ (#2 ⊗ t0 ⊕ t1 ⊕ #2 ⊗ t4); t6 = t4 }) → Lasts t tf
