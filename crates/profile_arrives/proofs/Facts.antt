@@ -22,11 +22,11 @@ use Rattle.profile.specs.Signs.{signsOf, signedOf, jerkOf, jerksOf}
 use Rattle.profile.specs.Limit.{bandOf}
 use Rattle.profile.specs.Check.{arrivedOf, withinOf, keptOf}
 use Rattle.rounding.specs.Exact.{D, nought, signed, Size, Below, Same}
-use Rattle.rounding.specs.Value.{mag, sign, val, Finite}
+use Rattle.rounding.specs.Value.{mag, sign, val, Finite, Number}
 use Rattle.rounding.specs.Motion.{lasts, elapsed}
 use Rattle.rounding.specs.Step.{Node}
 use Rattle.rounding.proofs.Operands.{sub-finite}
-use Rattle.rounding.proofs.Literals.{val-0, finite-0, finite-1e-8, finite-1e-10}
+use Rattle.rounding.proofs.Literals.{val-0, number-0, number-1e-8, number-1e-10}
 use Rattle.rounding.proofs.Compare.{lt-not, lt-finite, lt-size, val-cleared}
 use Rattle.rounding.proofs.Phase.{AllFinite}
 use Rattle.rounding.proofs.Run.{all-finite, lasts-elapsed}
@@ -67,11 +67,11 @@ abs-fits (fin s zero e) h = h
 abs-fits (fin s (suc m) e) h = h
 
 -- x - f, rounded, is below c in size
-close : (x f c : Float) → T (fits binary64 c) → Finite c → lt (absOf (x ⊖ f)) c ≡ true → Finite (x ⊖ f) × Size (val (x ⊖ f)) (mag c)
-close x f c g k h =
+close : (x f c : Float) → Number c → lt (absOf (x ⊖ f)) c ≡ true → Finite (x ⊖ f) × Size (val (x ⊖ f)) (mag c)
+close x f c g h =
     let d = x ⊖ f in
     let l = lt-finite (absOf d) c (abs-sign d) (is-true h) in
-    (abs-finite d l, lt-size (absOf d) d c (abs-fits d (sub-fits binary64 x f)) g l k (abs-val d) (is-true h))
+    (abs-finite d l, lt-size (absOf d) d c (abs-fits d (sub-fits binary64 x f)) (g .held) l (g .finite) (abs-val d) (is-true h))
 
 -- ---- the jerks: ±jf or 0, and 0 where the time is not above 0
 pub jerk-is : (signs : ControlSigns) (t : List Float) (jf : Float) (i : ℕ) → i < 7 → getD (jerksOf signs t jf) i nan ≡ jerkOf (getD (signsOf signs) i Zero) (getD t i nan) jf
@@ -114,13 +114,13 @@ module _ {signs : ControlSigns} {limits : ReachedLimits} {jf v-max v-min a-max a
       (u .0, u .1, w .1)
 
   pub end-p : Finite (node q' 7 .p ⊖ q' .pf) × Size (val (node q' 7 .p ⊖ q' .pf)) (mag #1e-8)
-  end-p = close (node q' 7 .p) (q' .pf) #1e-8 (ofBits-fits binary64 0x3E45_798E_E230_8C3A) finite-1e-8 (ends .0)
+  end-p = close (node q' 7 .p) (q' .pf) #1e-8 number-1e-8 (ends .0)
 
   pub end-v : Finite (node q' 7 .v ⊖ q' .vf) × Size (val (node q' 7 .v ⊖ q' .vf)) (mag #1e-8)
-  end-v = close (node q' 7 .v) (q' .vf) #1e-8 (ofBits-fits binary64 0x3E45_798E_E230_8C3A) finite-1e-8 (ends .1)
+  end-v = close (node q' 7 .v) (q' .vf) #1e-8 number-1e-8 (ends .1)
 
   pub end-a : Finite (node q' 7 .a ⊖ q' .af) × Size (val (node q' 7 .a ⊖ q' .af)) (mag #1e-10)
-  end-a = close (node q' 7 .a) (q' .af) #1e-10 (ofBits-fits binary64 0x3DDB_7CDF_D9D7_BDBB) finite-1e-10 (ends .2)
+  end-a = close (node q' 7 .a) (q' .af) #1e-10 number-1e-10 (ends .2)
 
   -- ---- all is finite: the times, the jerks and the recorded numbers before the end; and the end
   pub yes-finite : (i : ℕ) → i < 7 → AllFinite (time q' i) (jerk q' i) (node q' i)
@@ -135,7 +135,7 @@ module _ {signs : ControlSigns} {limits : ReachedLimits} {jf v-max v-min a-max a
   module _ (h : Held q) where
     -- no time is negative, so that the exact sum of the times is the sum of their sizes
     pub time-above : (i : ℕ) → i < 7 → Below nought (val (time q' i))
-    time-above i l = subst (λ (z : D). Below z (val (time q' i))) val-0 (lt-not (time q' i) #0 (held-left (y .carried) h .held-t i l) (ofBits-fits binary64 0) (yes-finite i l .t-finite) finite-0 (is-false (y .not-negative i l)))
+    time-above i l = subst (λ (z : D). Below z (val (time q' i))) val-0 (lt-not (time q' i) #0 (held-left (y .carried) h .held-t i l) (number-0 .held) (yes-finite i l .t-finite) (number-0 .finite) (is-false (y .not-negative i l)))
 
     pub total-is : Same (lasts (time q') 7) (signed false (elapsed (time q') 7))
     total-is = lasts-elapsed (time q') 7 time-above

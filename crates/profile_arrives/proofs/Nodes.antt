@@ -6,7 +6,6 @@ use native.Mathlib.Nat.{le-refl}
 use native.Mathlib.Omega.{arith}
 use lib.Dec.{T, leb, lit≤}
 use lib.Ieee.{Float, binary64, fits}
-use lib.Ieee.Bits.{ofBits-fits}
 use Rattle.float.specs.Ops.{_⊖_, #1e-8, #1e-10, #1e-12}
 use Rattle.rounding.specs.Exact.{D, Size, _⊙_}
 use Rattle.rounding.specs.Value.{unit, mag, val, Finite, Number}
@@ -14,7 +13,7 @@ use Rattle.rounding.specs.Bounds.{Off, Sized}
 use Rattle.rounding.specs.Motion.{Moving, motion, perA, perV, perP}
 use Rattle.rounding.specs.Step.{Node, from}
 use Rattle.rounding.specs.Run.{offA, offV, offP, Run}
-use Rattle.rounding.proofs.Literals.{val-1e-12, finite-1e-12}
+use Rattle.rounding.proofs.Literals.{val-1e-12, number-1e-12}
 use Rattle.rounding.proofs.Limits.{limit-above, limit-below}
 use Rattle.rounding.proofs.Run.{recorded, sized-a, sized-v, sized-p}
 use Rattle.profile_arrives.specs.Arrives.{part, At, Between, proved}
@@ -28,14 +27,14 @@ module _ (K : ℕ) {x : Float} {X : D} {c R : ℕ} (C : ℕ) (o : Off (K * unit)
   between low upp u w h =
       let M = mag #1e-12 in
       let small = at-most-one M 1_000_000_000_000 (2 ^ 53) unit (lit≤ tt) (lit≤ tt) fine-1e-12 in
-      let f = ofBits-fits binary64 0x3D71_9799_812D_EA11 in
+      let t = number-1e-12 in
       record {
         above =
             not-under K x X c o low M 1_000_000_000_000 C R fine-1e-12 tt k
-            (limit-below x low #1e-12 R M (z .held) (u .held) f (z .finite) (u .finite) finite-1e-12 val-1e-12 small (z .size) few (h .0));
+            (limit-below x low #1e-12 R M (z .held) (u .held) (t .held) (z .finite) (u .finite) (t .finite) val-1e-12 small (z .size) few (h .0));
         below =
             not-over K x X c o upp M 1_000_000_000_000 C R fine-1e-12 tt k
-            (limit-above x upp #1e-12 R M (z .held) (w .held) f (z .finite) (w .finite) finite-1e-12 val-1e-12 small (z .size) few (h .1));
+            (limit-above x upp #1e-12 R M (z .held) (w .held) (t .held) (z .finite) (w .finite) (t .finite) val-1e-12 small (z .size) few (h .1));
       }
 
 -- ---- the nodes of a run

@@ -25,22 +25,6 @@ or-cases : (a b : Bool) → T (a || b) → T a ⊎ T b
 or-cases true b t = inl tt
 or-cases false b t = inr t
 
-or-l : (a b : Bool) → T a → T (a || b)
-or-l true b t = tt
-or-l false b t = absurd t
-
-or-r : (a b : Bool) → T b → T (a || b)
-or-r true b t = tt
-or-r false b t = t
-
-neither-l : (a b : Bool) → T (not (a || b)) → T (not a)
-neither-l true b t = t
-neither-l false b t = tt
-
-neither-r : (a b : Bool) → T (not (a || b)) → T (not b)
-neither-r true b t = absurd t
-neither-r false b t = t
-
 module _ (a b c X Y U : ℕ) (C : 0 < c) (P : 0 < U) (p : a * U ≡ X * c) (q : b * U ≡ Y * c) where
   below-less : (s t : Bool) → T (below s a t b) → Less (signed s X) (signed t Y)
   below-less false false h = omega (arith, lt-in a b c X Y U P p q (ltb→lt a b h))
@@ -71,43 +55,6 @@ module _ (a b c X Y U : ℕ) (C : 0 < c) (P : 0 < U) (p : a * U ≡ X * c) (q : 
       go true false e (inr k) = omega (arith, none (eqb→eq a 0 k))
       go false true e (inr k) = omega (arith, none (eqb→eq a 0 k))
 
--- the other way: the same size in units is the same size
-same-level : (a b c X Y U : ℕ) → 0 < c → 0 < U → a * U ≡ X * c → b * U ≡ Y * c → (s t : Bool) → Same (signed s X) (signed t Y) → T (level s a t b)
-same-level a b c X Y U C P p q s t h = go s t h
-  where
-    ab : X ≡ Y → a ≡ b
-    ab e = equal X Y U a b c P C (sym p) (sym q) e
-
-    zero-size : X ≤ 0 → a ≡ 0
-    zero-size e = le-antisymm (none X Y U a b c P C (sym p) (sym q) (le-antisymm e (lower X))) (lower a)
-      where
-        lower : (z : ℕ) → 0 ≤ z
-        lower z = omega arith
-
-    go : (s t : Bool) → Same (signed s X) (signed t Y) → T (level s a t b)
-    go true true h = and-i (eqb a b) true (eq→eqb (ab (like X Y h))) tt
-      where
-        like : (X Y : ℕ) → 0 + Y ≡ 0 + X → X ≡ Y
-        like X Y e = omega arith
-    go false false h = and-i (eqb a b) true (eq→eqb (ab (like X Y h))) tt
-      where
-        like : (X Y : ℕ) → X + 0 ≡ Y + 0 → X ≡ Y
-        like X Y e = omega arith
-    go true false h = and-i (eqb a b) (false || eqb a 0) (eq→eqb (ab (like X Y h))) (or-r false (eqb a 0) (eq→eqb (zero-size (little X Y h))))
-      where
-        like : (X Y : ℕ) → 0 + 0 ≡ Y + X → X ≡ Y
-        like X Y e = omega arith
-
-        little : (X Y : ℕ) → 0 + 0 ≡ Y + X → X ≤ 0
-        little X Y e = omega arith
-    go false true h = and-i (eqb a b) (false || eqb a 0) (eq→eqb (ab (like X Y h))) (or-r false (eqb a 0) (eq→eqb (zero-size (little X Y h))))
-      where
-        like : (X Y : ℕ) → X + Y ≡ 0 + 0 → X ≡ Y
-        like X Y e = omega arith
-
-        little : (X Y : ℕ) → X + Y ≡ 0 + 0 → X ≤ 0
-        little X Y e = omega arith
-
 -- ---- finite floats
 module _ (s : Bool) (m : ℕ) (e : ℤ) (t : Bool) (n : ℕ) (d : ℤ) (f : T (fits binary64 (fin s m e))) (g : T (fits binary64 (fin t n d))) where
   C : 0 < down e * down d
@@ -131,10 +78,6 @@ module _ (s : Bool) (m : ℕ) (e : ℤ) (t : Bool) (n : ℕ) (d : ℤ) (f : T (f
   unfolding eq val sign
   fin-same h = level-same (m * up e * down d) (n * up d * down e) (down e * down d) (mag (fin s m e)) (mag (fin t n d)) unit C unit-pos p q s t h
 
-  fin-other : T (not (eq (fin s m e) (fin t n d))) → Same (val (fin s m e)) (val (fin t n d)) → ⊥
-  unfolding eq val sign
-  fin-other h k = T-not (eq (fin s m e) (fin t n d)) h (same-level (m * up e * down d) (n * up d * down e) (down e * down d) (mag (fin s m e)) (mag (fin t n d)) unit C unit-pos p q s t k)
-
 -- `lt`, `le` and `eq` of finite floats, true and false
 pub lt-less : (x y : Float) → T (fits binary64 x) → T (fits binary64 y) → Finite x → Finite y → T (lt x y) → Less (val x) (val y)
 lt-less nan y f g k l h = absurd k
@@ -157,13 +100,6 @@ eq-same (fin s m e) nan f g k l h = absurd l
 eq-same (fin s m e) (inf t) f g k l h = absurd l
 eq-same (fin s m e) (fin t n d) f g k l h = fin-same s m e t n d f g h
 
-pub eq-not : (x y : Float) → T (fits binary64 x) → T (fits binary64 y) → Finite x → Finite y → T (not (eq x y)) → Same (val x) (val y) → ⊥
-eq-not nan y f g k l h z = absurd k
-eq-not (inf s) y f g k l h z = absurd k
-eq-not (fin s m e) nan f g k l h z = absurd l
-eq-not (fin s m e) (inf t) f g k l h z = absurd l
-eq-not (fin s m e) (fin t n d) f g k l h z = fin-other s m e t n d f g h z
-
 pub le-below : (x y : Float) → T (fits binary64 x) → T (fits binary64 y) → Finite x → Finite y → T (le x y) → Below (val x) (val y)
 unfolding le
 le-below x y f g k l h = go (or-cases (lt x y) (eq x y) h)
@@ -178,37 +114,7 @@ le-below x y f g k l h = go (or-cases (lt x y) (eq x y) h)
     go (inl z) = less-is (val x) (val y) (lt-less x y f g k l z)
     go (inr z) = same-is (val x) (val y) (eq-same x y f g k l z)
 
-pub le-not : (x y : Float) → T (fits binary64 x) → T (fits binary64 y) → Finite x → Finite y → T (not (le x y)) → Less (val y) (val x)
-unfolding le
-le-not x y f g k l h = strict (val x) (val y) (lt-not x y f g k l (neither-l (lt x y) (eq x y) h)) (eq-not x y f g k l (neither-r (lt x y) (eq x y) h))
-  where
-    strict : (a b : D) → Below b a → (Same a b → ⊥) → Less b a
-    strict a b z w = lt-of-le-ne z (λ (e : b .p + a .n ≡ a .p + b .n). w (sym e))
-
 -- ---- a true comparison has no NaN
-pub lt-numbers : (x y : Float) → T (lt x y) → T (not (isNan x)) × T (not (isNan y))
-unfolding lt isNan
-lt-numbers nan y h = absurd h
-lt-numbers (inf s) nan h = absurd h
-lt-numbers (inf s) (inf t) h = (tt, tt)
-lt-numbers (inf s) (fin t n d) h = (tt, tt)
-lt-numbers (fin s m e) nan h = absurd h
-lt-numbers (fin s m e) (inf t) h = (tt, tt)
-lt-numbers (fin s m e) (fin t n d) h = (tt, tt)
-
-pub eq-numbers : (x y : Float) → T (eq x y) → T (not (isNan x)) × T (not (isNan y))
-unfolding eq isNan
-eq-numbers nan y h = absurd h
-eq-numbers (inf s) nan h = absurd h
-eq-numbers (inf s) (inf t) h = (tt, tt)
-eq-numbers (inf s) (fin t n d) h = (tt, tt)
-eq-numbers (fin s m e) nan h = absurd h
-eq-numbers (fin s m e) (inf t) h = (tt, tt)
-eq-numbers (fin s m e) (fin t n d) h = (tt, tt)
-
-pub le-numbers : (x y : Float) → T (le x y) → T (not (isNan x)) × T (not (isNan y))
-unfolding le
-le-numbers x y h = elim (or-cases (lt x y) (eq x y) h) [ inl z ↦ lt-numbers x y z | inr z ↦ eq-numbers x y z ]
 
 -- ---- an absolute value below a limit. a is d with its sign cleared: `val a ≡ signed false (mag d)`
 pub val-size : (x : Float) → Size (val x) (mag x)

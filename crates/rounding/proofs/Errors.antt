@@ -17,7 +17,7 @@ use lib.Dec.{T, leb, leb→le}
 use lib.Pow.{pow-pos}
 use Rattle.rounding.specs.Exact.{D, opposite, Near, Size, Same, _⊞_, _⊟_, _⊠_, _⊙_}
 use Rattle.rounding.specs.Bounds.{Rounds, Off}
-use Rattle.rounding.proofs.Linear.{near-self, near-as, near-sum, near-times, near-cancel, size-near, size-weaken, product-near}
+use Rattle.rounding.proofs.Linear.{near-self, near-as, near-sum, near-times, near-cancel, product-near}
 
 pub off-none : (S : ℕ) (a : D) → Off S a a 0
 off-none S a = record { err = 0; near = near-self a; bound = none S (2 ^ 53) }
@@ -46,12 +46,6 @@ off-sum {S} {a} {b} {c} {d} {β} {γ} o w =
   where
     bounded : (e f P β γ S : ℕ) → e * P ≤ β * S → f * P ≤ γ * S → (e + f) * P ≤ (β + γ) * S
     bounded e f P β γ S h k = omega arith
-
-pub off-trans : {S : ℕ} {a b c : D} {β γ : ℕ} → Off S a b β → Off S b c γ → Off S a c (β + γ)
-off-trans {S} {a} {b} {c} o w = off-as a c (off-sum o w) (met a b c)
-  where
-    met : (a b c : D) → Same (a ⊞ b ⊟ (b ⊞ c)) (a ⊟ c)
-    met a b c = omega arith
 
 pub off-neg : {S : ℕ} {a b : D} {β : ℕ} → Off S a b β → Off S (opposite a) (opposite b) β
 off-neg {S} {a} {b} o = record { err = o .err; near = turned a b (o .err) (o .near); bound = o .bound }

@@ -17,16 +17,6 @@ use Rattle.rounding.proofs.Operands.{finite-neg}
 use Rattle.rounding.proofs.Ops.{val-neg, add-rounds, sub-rounds, div-rounds, add-infinite}
 use Rattle.rounding.proofs.Compare.{le-below, mag-sum}
 
--- e is at most 1 / k of N, where e * 2 ^ 53 ≤ c * N and c * k ≤ 2 ^ 53: a bound in decimal parts
-pub in-parts : (k e c N : ℕ) → e * 2 ^ 53 ≤ c * N → T (leb (c * k) (2 ^ 53)) → e * k ≤ N
-in-parts k e c N h l = go k e c N (2 ^ 53) (pow-pos 53) h (leb→le (c * k) (2 ^ 53) l)
-  where
-    go : (k e c N P : ℕ) → 0 < P → e * P ≤ c * N → c * k ≤ P → e * k ≤ N
-    go k e c N P Z h l = le-of-mul-le-mul-right below Z
-      where
-        below : e * k * P ≤ N * P
-        below = omega (arith, mul-le-mul-left k h, mul-le-mul-right N l)
-
 -- a time that is not negative is its size
 pub val-above : (x : Float) → Below nought (val x) → val x ≡ signed false (mag x)
 unfolding val

@@ -56,9 +56,6 @@ size-opposite a e h = omega arith
 pub size-weaken : (a : D) (e f : ℕ) → Size a e → e ≤ f → Size a f
 size-weaken a e f h k = omega arith
 
-pub size-near : (a b : D) (e f : ℕ) → Near a b e → Size b f → Size a (f + e)
-size-near a b e f h k = omega arith
-
 pub size-sum : (a b : D) (e f : ℕ) → Size a e → Size b f → Size (a ⊞ b) (e + f)
 size-sum a b e f h k = omega arith
 

@@ -17,9 +17,6 @@ use Rattle.rounding.proofs.Unit.{mag-exact, cross, cross', both-in, le-
 use Rattle.rounding.proofs.Rounding.{result, round-val, round-error, round-infinite, Grid, Close, close-in, close-whole, close-signed, rounds-same}
 use Rattle.rounding.proofs.Operands.{add-finite, mul-finite, zero-out}
 
-cancel-pow : (a b : ℕ) → a * 2 ^ 53 ≤ b * 2 ^ 53 → a ≤ b
-cancel-pow a b h = le-of-mul-le-mul-right h (pow-pos 53)
-
 -- ---- the sign changes exactly
 pub val-neg : (x : Float) → val (neg x) ≡ opposite (val x)
 unfolding val sign mag neg
@@ -240,8 +237,3 @@ div-rounds (fin s m e) (fin t zero d) f g k h = absurd (zero-out s t m e d h)
 div-rounds (fin s m e) (fin t (suc n) d) f g k h = div-fin s t m n e d f g h
 
 -- ---- the error from any bound M of the exact result, or of the float one
-pub forward-near : {r v : D} {l : ℕ} → Rounds r v l → (M e : ℕ) → Size v M → M + l ≤ e * 2 ^ 53 → Near r v e
-forward-near {r} {v} w M e s b = near-weaken r v (w .err) e (w .near) (cancel-pow (w .err) e (le-trans (w .forward M s) b))
-
-pub backward-near : {r v : D} {l : ℕ} → Rounds r v l → (M e : ℕ) → Size r M → M + l ≤ e * 2 ^ 53 → Near r v e
-backward-near {r} {v} w M e s b = near-weaken r v (w .err) e (w .near) (cancel-pow (w .err) e (le-trans (w .backward M s) b))

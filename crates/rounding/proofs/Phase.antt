@@ -17,7 +17,7 @@ use Rattle.rounding.specs.Motion.{Moving, phase, perA, perV, perP}
 use Rattle.rounding.specs.Step.{Node, from, stepOf}
 use Rattle.rounding.proofs.Linear.{size-sum-in, times-times, near-trans, near-times, near-sum, product-near}
 use Rattle.rounding.proofs.Operands.{add-finite, mul-finite, div-finite}
-use Rattle.rounding.proofs.Literals.{val-2, val-6, finite-2, finite-6}
+use Rattle.rounding.proofs.Literals.{val-2, val-6, number-2, number-6}
 use Rattle.rounding.proofs.Compare.{val-size}
 use Rattle.rounding.proofs.Errors.{off-as, off-scale, off-sum, off-times, off-product}
 use Rattle.rounding.proofs.Sizes.{unit-52, on, on-whole, on-times, on-is}
@@ -146,12 +146,6 @@ pub record Steady (t j : Float) (n : Node) : Type 0 where
   pub of-v : Sized unit (n .v) 4169
   pub of-p : Sized unit (n .p) 33353
 
-by-2 : Number #2
-by-2 = record { held = ofBits-fits binary64 0x4000_0000_0000_0000; finite = finite-2 }
-
-by-6 : Number #6
-by-6 = record { held = ofBits-fits binary64 0x4018_0000_0000_0000; finite = finite-6 }
-
 module _ (t j : Float) (n : Node) (z : Steady t j n) where
   pub step-a : Finite (stepOf t j n .a)
       → (e : ℕ) × Near (perA ⊙ val (stepOf t j n .a)) (phase (val t) (val j) (from n) .a) e × (e * 2 ^ 53 ≤ 1547 * (unit * unit))
@@ -175,7 +169,7 @@ module _ (t j : Float) (n : Node) (z : Steady t j n) where
       × (e * 2 ^ 53 ≤ 2 * (1292 * (unit * unit * mag t) + 16635 * (unit * unit * unit)))
   unfolding integrateOf
   step-v h =
-      let half = on-div #2 2 257 514 product val-2 by-2 tt tt tt tt in
+      let half = on-div #2 2 257 514 product val-2 number-2 tt tt tt tt in
       let slope = on-add (on-whole (2 * unit) (z .of-a)) half tt in
       let w = step-near (n .v) t 4169 slope (z .of-v) (z .of-t) h tt tt in (
         w .0,
@@ -191,8 +185,8 @@ module _ (t j : Float) (n : Node) (z : Steady t j n) where
       × (e * 2 ^ 53 ≤ 6 * (15987 * (unit * unit * unit * mag t) + 144635 * (unit * unit * unit * unit)))
   unfolding integrateOf
   step-p h =
-      let sixth = on-div #6 6 86 172 product val-6 by-6 tt tt tt tt in
-      let half = on-div #2 2 261 262 (on (z .of-a)) val-2 by-2 tt tt tt tt in
+      let sixth = on-div #6 6 86 172 product val-6 number-6 tt tt tt tt in
+      let half = on-div #2 2 261 262 (on (z .of-a)) val-2 number-2 tt tt tt tt in
       let thrice = on-is (6 * unit) (3 ⊙ (perA ⊙ val (n .a))) (on-times (3 * unit) half) (sixfold unit) (refl-of (times-times 3 unit (val (n .a)))) in
       let lift = on-mul (on (z .of-t)) (on-add thrice sixth tt) unit-52 tt tt in
       let slope = on-add (on-whole (1 * (6 * unit) * unit) (z .of-v)) lift tt in

@@ -16,7 +16,7 @@ use Rattle.rounding.proofs.Linear.{wider, size-times, size-divide, size
 use Rattle.rounding.proofs.Unit.{unit-pos}
 use Rattle.rounding.proofs.Operands.{mul-finite}
 use Rattle.rounding.proofs.Ops.{mul-rounds}
-use Rattle.rounding.proofs.Literals.{val-2, finite-2}
+use Rattle.rounding.proofs.Literals.{val-2, number-2}
 use Rattle.rounding.proofs.Errors.{rounds-off, off-as, off-scale, off-sum, off-times, off-product, off-sym, off-size}
 use Rattle.rounding.proofs.Sizes.{unit-52, on, on-is, on-most, on-cancel}
 
@@ -100,7 +100,7 @@ on-twice {t} {R} z h =
     (subst (λ (y : D). Same (y ⊠ val t) (unit ⊙ (2 ⊙ val t))) (sym val-2) (doubled unit (val t))))) (same R) (none R)
   where
     two : Sized unit #2 2
-    two = record { held = ofBits-fits binary64 0x4000_0000_0000_0000; finite = finite-2; size = subst (λ (y : D). Size y (2 * unit)) (sym val-2) (itself (2 * unit)) }
+    two = record { held = number-2 .held; finite = number-2 .finite; size = subst (λ (y : D). Size y (2 * unit)) (sym val-2) (itself (2 * unit)) }
       where
         itself : (k : ℕ) → Size (signed false k) k
         itself k = omega arith

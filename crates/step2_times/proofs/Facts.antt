@@ -13,7 +13,6 @@ use Rattle.rounding.specs.Value.{unit, val, Finite}
 use Rattle.rounding.specs.Motion.{motion, state}
 use Rattle.rounding.specs.Step.{Replaced}
 use Rattle.rounding.proofs.Operands.{sub-finite, mul-finite, div-finite}
-use Rattle.rounding.proofs.Limits.{in-parts}
 use Rattle.rounding.proofs.Sizes.{about}
 use Rattle.rounding.proofs.Negations.{about-neg}
 use Rattle.rounding.proofs.Sums.{sum-back, on-sum}
@@ -29,10 +28,6 @@ use Rattle.step2_times.proofs.Within.{within, more, more'}
 use Rattle.step2_times.proofs.Less.{acc0-acc1-vel-uddu-lasts, acc0-acc1-vel-udud-lasts, acc0-acc1-rest-lasts, acc0-acc1-uddu-lasts, acc0-second-lasts, acc0-third-lasts}
 use Rattle.step2_times.proofs.Quotients.{acc1-vel-uddu-lasts, acc1-vel-udud-lasts, acc0-vel-uddu-lasts, acc0-vel-udud-lasts, acc0-first-lasts}
 use Rattle.step2_times.proofs.Ramps.{ramps, coasts, rests}
-
--- the bound in decimal parts: 1e-10
-pub lasts-within : {t : ℕ → Float} {tf : Float} (l : Lasts t tf) → l .err * 10_000_000_000 ≤ unit
-lasts-within l = in-parts 10000000000 (l .err) roundings unit (l .bound) tt
 
 swapped : (a b : D) → Same (a ⊞ b) (b ⊞ a)
 swapped a b = omega arith

@@ -9,7 +9,6 @@ use lib.Pow.{pow-pos}
 use lib.Arith.{le-zero}
 use lib.Ieee.{Float, nan, inf, fin, binary64, neg, fits, lt}
 use lib.Ieee.Fits.{neg-fits}
-use lib.Ieee.Bits.{ofBits-fits}
 use Rattle.float.specs.Ops.{_⊘_, #0, #ε}
 use Rattle.float.specs.Helpers.{absOf}
 use Rattle.rounding.specs.Exact.{D, nought, opposite, Near, Size, Same, _⊞_, _⊟_, _⊠_, _⊙_}
@@ -18,7 +17,7 @@ use Rattle.rounding.specs.Bounds.{Off, Sized, On, Part}
 use Rattle.rounding.specs.Motion.{motion, state}
 use Rattle.rounding.specs.Step.{Replaced}
 use Rattle.rounding.proofs.Compare.{val-size, size-mag, mag-sum, val-cleared, lt-size}
-use Rattle.rounding.proofs.Literals.{most-eps, finite-eps}
+use Rattle.rounding.proofs.Literals.{mag-eps, number-eps}
 use Rattle.rounding.proofs.Limits.{dividend-none}
 use Rattle.rounding.proofs.Errors.{off-as, off-sum, off-neg, off-times, off-cancel, off-size}
 use Rattle.rounding.proofs.Sizes.{about-off, on}
@@ -119,7 +118,7 @@ below-eps : (a0 : Float) → Number a0 → T (lt (absOf a0) #ε) → Size (val a
 unfolding absOf neg
 below-eps nan n h = absurd (n .finite)
 below-eps (inf s) n h = absurd (n .finite)
-below-eps (fin s m e) n h = lt-size (fin false m e) (fin s m e) #ε (cleared s (n .held)) (ofBits-fits binary64 0x3CB0_0000_0000_0000) tt finite-eps (val-cleared s m e) h
+below-eps (fin s m e) n h = lt-size (fin false m e) (fin s m e) #ε (cleared s (n .held)) (number-eps .held) tt (number-eps .finite) (val-cleared s m e) h
   where
     cleared : (s : Bool) → T (fits binary64 (fin s m e)) → T (fits binary64 (fin false m e))
     cleared false f = f
@@ -140,7 +139,7 @@ rests {t} a {jf} h p0 v0 a0 n l e =
     two f Q U h = omega arith
 
     small : Off unit (val a0) nought 2
-    small = record { err = mag #ε; near = near (val a0) (mag #ε) (below-eps a0 n l); bound = two (mag #ε) (2 ^ 52) unit most-eps }
+    small = record { err = mag #ε; near = near (val a0) (mag #ε) (below-eps a0 n l); bound = two (mag #ε) (2 ^ 52) unit (le-of-eq mag-eps) }
 
     gone : (U : ℕ) (s t y : D) → Same (U ⊙ s ⊟ U ⊙ nought) (U ⊙ s ⊞ (t ⊟ t) ⊠ y ⊟ nought)
     gone U s t y = omega arith

@@ -7,7 +7,6 @@ use native.Mathlib.Omega.{arith}
 use mathlib.Core.Bool.{Bool, true, false, not, cond}
 use lib.Dec.{T, leb, lit≤}
 use lib.Ieee.{Float, binary64, neg, fits, lt}
-use lib.Ieee.Bits.{ofBits-fits}
 use Rattle.float.specs.Ops.{#0}
 use Rattle.rounding.specs.Exact.{D, signed, nought, opposite, Near, Size, Same, Below, _⊞_, _⊟_, _⊠_, _⊙_}
 use Rattle.rounding.specs.Value.{unit, mag, val, Finite}
@@ -18,7 +17,7 @@ use Rattle.rounding.proofs.Ops.{val-neg}
 use Rattle.rounding.proofs.Operands.{neg-finite}
 use Rattle.rounding.proofs.Compare.{lt-not, mag-sum, size-mag}
 use Rattle.rounding.proofs.Limits.{val-above}
-use Rattle.rounding.proofs.Literals.{val-0, finite-0}
+use Rattle.rounding.proofs.Literals.{val-0, number-0}
 use Rattle.rounding.proofs.Errors.{off-as, off-scale, off-within, off-times}
 use Rattle.rounding.proofs.Negations.{neg-same, neg-size}
 use Rattle.step2_solver.specs.declared.Times.{Times}
@@ -31,7 +30,7 @@ product-same t x y e = subst (λ (z : D). Same (t ⊠ x) (t ⊠ z)) e refl
 
 -- a time that is not above 0 and not below it is 0
 no-time : (t : Float) → T (fits binary64 t) → Finite t → Below nought (val t) → T (not (lt #0 t)) → mag t ≡ 0
-no-time t f k a h = go (mag t) (subst (λ (z : D). Below z nought) (val-above t a) (subst (λ (z : D). Below (val t) z) val-0 (lt-not #0 t (ofBits-fits binary64 0) f finite-0 k h)))
+no-time t f k a h = go (mag t) (subst (λ (z : D). Below z nought) (val-above t a) (subst (λ (z : D). Below (val t) z) val-0 (lt-not #0 t (number-0 .held) f (number-0 .finite) k h)))
   where
     go : (m : ℕ) → Below (signed false m) nought → m ≡ 0
     go m h = omega arith
@@ -83,7 +82,7 @@ module _ {t : ℕ → Float} {x : Times} (a : Accepted t x) {jf : Float} {j : �
       let m = motion t j (state p0 v0 a0) 3 .a in
       let w = off-within residual o k in
       record {
-        held = ofBits-fits binary64 0;
+        held = number-0 .held;
         err = w .err;
         near = subst (λ (z : D). Near (unit ⊙ z) m (w .err)) (sym val-0) (from-none m ends unit (w .err) reached (w .near));
         bound = w .bound;
