@@ -6,10 +6,9 @@ use native.Mathlib.Nat.{le-of-eq, le-antisymm, lt-of-le-of-lt, lt-of-lt-of-le, z
 use native.Mathlib.Omega.{arith}
 use mathlib.Core.Bool.{Bool, true, false, not, _||_, Bool·beq, true≢false}
 use lib.IntN.{ℤ}
-use lib.Dec.{T, eqb, ltb→lt, nltb→le, eqb→eq, T-not}
-use lib.Arith.{lt-of-le-ne}
-use lib.Ieee.{Float, nan, inf, fin, binary64, up, down, below, level, lt, le, eq, isNan, fits}
-use lib.Ieee.Fits.{down-pos, and-l, and-r, and-i, eq→eqb}
+use lib.Dec.{T, eqb, ltb→lt, nltb→le, eqb→eq}
+use lib.Ieee.{Float, nan, inf, fin, binary64, up, down, below, level, lt, le, eq, fits}
+use lib.Ieee.Fits.{down-pos, and-l, and-r}
 use Rattle.rounding.specs.Exact.{D, signed, Size, Below, Less, Same}
 use Rattle.rounding.specs.Value.{unit, mag, sign, val, Finite}
 use Rattle.rounding.proofs.Unit.{mag-exact, unit-pos, cross, cross', both-in, le-in}

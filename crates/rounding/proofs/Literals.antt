@@ -4,7 +4,7 @@ use mathlib.Core.Path.{_≡_, refl, ap, _∙_}
 use Prim.Native.Nat.{ℕ, _*_, _^_}
 use native.Mathlib.Nat.{zero-mul, one-mul}
 use mathlib.Core.Bool.{Bool, false}
-use lib.IntN.{pos, negsuc}
+use lib.IntN.{pos}
 use lib.Dec.{lit≤}
 use lib.Ieee.{fin, binary64, ofBits}
 use lib.Ieee.Bits.{ofBits-fits}

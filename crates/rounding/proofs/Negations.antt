@@ -1,7 +1,6 @@
 -- The sign changes exactly: `Sized`, `About` and `On` of a float and of its opposite. Assumes nothing.
 use mathlib.Core.Path.{refl, sym, subst}
 use Prim.Native.Nat.{ℕ, _*_}
-use native.Mathlib.Omega.{arith}
 use lib.Dec.{T}
 use lib.Ieee.{Float, binary64, neg, fits}
 use lib.Ieee.Fits.{neg-fits}

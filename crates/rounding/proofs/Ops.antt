@@ -1,18 +1,16 @@
 -- Each operation on f64s is its exact result rounded once: `Rounds`, in units of 2 ^ -1074. Assumes nothing.
 use mathlib.Core.Path.{_≡_, refl, sym, ap, _∙_, subst}
 use Prim.Native.Nat.{ℕ, zero, suc, _+_, _-_, _*_, _^_, _≤_, _<_}
-use native.Mathlib.Nat.{zero-lt-suc, le-trans, le-of-lt, mul-comm, mul-assoc, mul-sub, mul-pos, mul-le-mul-left, le-of-mul-le-mul-right}
+use native.Mathlib.Nat.{zero-lt-suc, le-trans, le-of-lt, mul-comm, mul-assoc, mul-sub, mul-pos, mul-le-mul-left}
 use native.Mathlib.Omega.{arith}
 use mathlib.Core.Bool.{Bool, true, false, not, _&&_, cond, true≢false}
 use lib.IntN.{ℤ}
 use lib.Dec.{T, lit≤, ltb, eqb, eqb·suc-zero, ltb→lt, nltb→le}
 use lib.Ieee.{Float, nan, inf, fin, binary64, unlike, up, down, neg, sum, round, add, sub, mul, div, fits}
 use lib.Ieee.Fits.{down-pos, up-pos, neg-fits}
-use lib.Pow.{pow-pos}
-use Rattle.rounding.specs.Exact.{D, signed, opposite, Near, Size, Same, _⊞_, _⊟_, _⊙_, _⊠_}
+use Rattle.rounding.specs.Exact.{D, signed, opposite, Same, _⊞_, _⊟_, _⊙_, _⊠_}
 use Rattle.rounding.specs.Value.{unit, mag, sign, val, Finite}
 use Rattle.rounding.specs.Bounds.{Rounds}
-use Rattle.rounding.proofs.Linear.{near-weaken}
 use Rattle.rounding.proofs.Unit.{mag-exact, cross, cross', both-in, le-in}
 use Rattle.rounding.proofs.Rounding.{result, round-val, round-error, round-infinite, Grid, Close, close-in, close-whole, close-signed, rounds-same}
 use Rattle.rounding.proofs.Operands.{add-finite, mul-finite, zero-out}

@@ -2,24 +2,22 @@
 -- Assumes nothing.
 use mathlib.Core.Path.{_≡_, refl, ap, _∙_, subst}
 use Prim.Native.Nat.{ℕ, _+_, _*_, _^_, _≤_}
-use native.Mathlib.Nat.{le-trans, le-of-eq, mul-comm, mul-assoc, mul-left-comm, one-mul, mul-le-mul-left}
+use native.Mathlib.Nat.{le-trans, le-of-eq, mul-assoc, one-mul}
 use native.Mathlib.Omega.{arith}
 use lib.Dec.{T, leb}
-use lib.Ieee.{Float, binary64, fits}
-use lib.Ieee.Fits.{mul-fits}
-use lib.Ieee.Bits.{ofBits-fits}
+use lib.Ieee.{Float}
 use Rattle.float.specs.Ops.{_⊕_, _⊗_, _⊘_, #2, #6}
 use Rattle.util.specs.Integrate.{integrateOf}
-use Rattle.rounding.specs.Exact.{D, Near, Size, Same, _⊞_, _⊟_, _⊠_, _⊙_}
-use Rattle.rounding.specs.Value.{unit, mag, val, Finite, Number}
-use Rattle.rounding.specs.Bounds.{Off, Sized, On}
+use Rattle.rounding.specs.Exact.{D, Near, Size, Same, _⊞_, _⊠_, _⊙_}
+use Rattle.rounding.specs.Value.{unit, mag, val, Finite}
+use Rattle.rounding.specs.Bounds.{Sized, On}
 use Rattle.rounding.specs.Motion.{Moving, phase, perA, perV, perP}
 use Rattle.rounding.specs.Step.{Node, from, stepOf}
-use Rattle.rounding.proofs.Linear.{size-sum-in, times-times, near-trans, near-times, near-sum, product-near}
+use Rattle.rounding.proofs.Linear.{size-sum-in, times-times, near-times, near-sum, product-near}
 use Rattle.rounding.proofs.Operands.{add-finite, mul-finite, div-finite}
 use Rattle.rounding.proofs.Literals.{val-2, val-6, number-2, number-6}
 use Rattle.rounding.proofs.Compare.{val-size}
-use Rattle.rounding.proofs.Errors.{off-as, off-scale, off-sum, off-times, off-product}
+use Rattle.rounding.proofs.Errors.{off-scale, off-sum, off-times, off-product}
 use Rattle.rounding.proofs.Sizes.{unit-52, on, on-whole, on-times, on-is}
 use Rattle.rounding.proofs.Sums.{sum-forth, on-add}
 use Rattle.rounding.proofs.Products.{product-off, on-mul}

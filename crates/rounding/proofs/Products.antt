@@ -1,17 +1,16 @@
 -- A product on a scale: one factor on the scale S, the other absolute. Assumes nothing.
 use mathlib.Core.Path.{_≡_, subst, sym}
 use Prim.Native.Nat.{ℕ, _+_, _*_, _^_, _≤_}
-use native.Mathlib.Nat.{le-trans, le-of-eq, add-le-add, mul-comm, mul-assoc, mul-left-comm, mul-add, add-mul, one-mul, mul-le-mul-left}
+use native.Mathlib.Nat.{le-trans, le-of-eq, mul-comm, mul-assoc, mul-left-comm, mul-le-mul-left}
 use native.Mathlib.Omega.{arith}
 use mathlib.Core.Bool.{false}
 use lib.Dec.{T, leb}
-use lib.Ieee.{Float, binary64, ofBits, fits}
+use lib.Ieee.{Float, binary64, fits}
 use lib.Ieee.Fits.{mul-fits}
-use lib.Ieee.Bits.{ofBits-fits}
 use Rattle.float.specs.Ops.{_⊗_, #2}
-use Rattle.rounding.specs.Exact.{D, signed, Near, Size, Same, _⊞_, _⊟_, _⊠_, _⊙_}
+use Rattle.rounding.specs.Exact.{D, signed, Size, Same, _⊞_, _⊟_, _⊠_, _⊙_}
 use Rattle.rounding.specs.Value.{unit, val, Finite}
-use Rattle.rounding.specs.Bounds.{Off, Sized, About, On}
+use Rattle.rounding.specs.Bounds.{Off, Sized, On}
 use Rattle.rounding.proofs.Linear.{wider, size-times, size-divide, size-product}
 use Rattle.rounding.proofs.Unit.{unit-pos}
 use Rattle.rounding.proofs.Operands.{mul-finite}

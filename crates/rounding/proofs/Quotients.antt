@@ -1,20 +1,20 @@
 -- Quotients: by any divisor j, multiplied through by j (`Part`); by a whole literal; and sizes found backwards. Assumes nothing.
 use mathlib.Core.Path.{_≡_, refl, ap, subst, sym, _∙_}
 use Prim.Native.Nat.{ℕ, _+_, _*_, _^_, _≤_, _<_}
-use native.Mathlib.Nat.{le-trans, le-of-eq, le-refl, add-zero, mul-comm, mul-assoc, mul-left-comm, mul-le-mul-left, mul-le-mul-right}
+use native.Mathlib.Nat.{le-trans, le-of-eq, add-zero, mul-comm, mul-assoc, mul-left-comm, mul-le-mul-left, mul-le-mul-right}
 use native.Mathlib.Omega.{arith}
 use mathlib.Core.Bool.{Bool, true, false}
 use lib.Dec.{T, leb, leb→le, lit≤}
-use lib.Ieee.{Float, binary64, neg, fits}
+use lib.Ieee.{Float, binary64, fits}
 use lib.Ieee.Fits.{div-fits}
 use Rattle.float.specs.Ops.{_⊘_}
 use Rattle.rounding.specs.Exact.{D, nought, signed, opposite, Near, Size, Same, _⊞_, _⊟_, _⊠_, _⊙_}
 use Rattle.rounding.specs.Value.{unit, mag, sign, val, Finite, Number}
-use Rattle.rounding.specs.Bounds.{Off, Sized, About, On, Part}
+use Rattle.rounding.specs.Bounds.{Off, Sized, On, Part}
 use Rattle.rounding.proofs.Linear.{wider, size-times, size-divide, size-product, size-weaken}
 use Rattle.rounding.proofs.Unit.{unit-pos}
 use Rattle.rounding.proofs.Operands.{div-finite}
-use Rattle.rounding.proofs.Ops.{val-neg, div-rounds}
+use Rattle.rounding.proofs.Ops.{div-rounds}
 use Rattle.rounding.proofs.Compare.{val-size, mag-sum}
 use Rattle.rounding.proofs.Errors.{rounds-off, off-as, off-scale, off-once, off-sum, off-neg, off-times, off-cancel, off-product, off-size}
 use Rattle.rounding.proofs.Sizes.{unit-52}

@@ -1,6 +1,6 @@
 -- The eleven attempts of the five shapes: the seven times add up to tf, and the acceleration that the label replaces by 0 is near 0. Assumes nothing.
 -- The root r and the numbers h1, t1, t3, .. are any f64s: only the last line of formulas counts. h1 is asked to fit where it is a numerator.
-use Prim.Native.Nat.{ℕ, _*_, _≤_}
+use Prim.Native.Nat.{ℕ}
 use mathlib.Core.Path.{_≡_, refl, sym, _∙_}
 use native.Mathlib.Omega.{arith}
 use lib.Dec.{T}
@@ -9,7 +9,7 @@ use lib.Ieee.Fits.{add-fits, sub-fits, div-fits, and-l}
 use Rattle.float.specs.Ops.{_⊕_, _⊖_, _⊗_, _⊘_, #0, #2, #ε}
 use Rattle.float.specs.Helpers.{absOf}
 use Rattle.rounding.specs.Exact.{D, opposite, Same, _⊞_}
-use Rattle.rounding.specs.Value.{unit, val, Finite}
+use Rattle.rounding.specs.Value.{val, Finite}
 use Rattle.rounding.specs.Motion.{motion, state}
 use Rattle.rounding.specs.Step.{Replaced}
 use Rattle.rounding.proofs.Operands.{sub-finite, mul-finite, div-finite}
@@ -23,7 +23,7 @@ use Rattle.step2_solver.specs.TimeAcc0Acc1.{acc0Acc1RestApplies, acc0Acc1RestTi
 use Rattle.step2_solver.specs.TimeAcc0.{acc0FirstTimes, acc0SecondTimes, acc0ThirdTimes}
 use Rattle.step2_solver_quartic.specs.TimeAcc1Vel.{acc1VelUdduTimes, acc1VelUdudTimes}
 use Rattle.step2_solver_quartic.specs.TimeAcc0Vel.{acc0VelUdduTimes, acc0VelUdudTimes}
-use Rattle.step2_times.specs.Facts.{Numbers, Accepted, roundings, Lasts, Jerks, residual, Replaces}
+use Rattle.step2_times.specs.Facts.{Numbers, Accepted, Lasts, Jerks, residual, Replaces}
 use Rattle.step2_times.proofs.Within.{within, more, more'}
 use Rattle.step2_times.proofs.Less.{acc0-acc1-vel-uddu-lasts, acc0-acc1-vel-udud-lasts, acc0-acc1-rest-lasts, acc0-acc1-uddu-lasts, acc0-second-lasts, acc0-third-lasts}
 use Rattle.step2_times.proofs.Quotients.{acc1-vel-uddu-lasts, acc1-vel-udud-lasts, acc0-vel-uddu-lasts, acc0-vel-udud-lasts, acc0-first-lasts}

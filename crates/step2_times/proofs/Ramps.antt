@@ -4,7 +4,7 @@ use Prim.Native.Nat.{ℕ, _+_, _*_, _^_, _≤_, _<_}
 use native.Mathlib.Nat.{le-trans, le-of-eq, zero-mul, le-of-mul-le-mul-right}
 use native.Mathlib.Omega.{arith}
 use mathlib.Core.Bool.{Bool, true, false}
-use lib.Dec.{T, lit≤}
+use lib.Dec.{T}
 use lib.Pow.{pow-pos}
 use lib.Arith.{le-zero}
 use lib.Ieee.{Float, nan, inf, fin, binary64, neg, fits, lt}

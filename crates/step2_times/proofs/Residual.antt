@@ -1,7 +1,7 @@
 -- The exact acceleration after phase 2, from the recorded jerks or from jf itself, and when it is near 0. Assumes nothing.
 use mathlib.Core.Path.{_≡_, refl, sym, ap, _∙_, subst}
 use mathlib.Core.Logic.{_⊎_, inl, inr}
-use Prim.Native.Nat.{ℕ, _+_, _*_, _^_, _≤_, _<_}
+use Prim.Native.Nat.{ℕ, _+_, _*_, _≤_, _<_}
 use native.Mathlib.Nat.{le-trans, le-of-eq, mul-le-mul-left}
 use native.Mathlib.Omega.{arith}
 use mathlib.Core.Bool.{Bool, true, false, not, cond}
@@ -13,7 +13,6 @@ use Rattle.rounding.specs.Value.{unit, mag, val, Finite}
 use Rattle.rounding.specs.Bounds.{Off, Part}
 use Rattle.rounding.specs.Motion.{motion, state}
 use Rattle.rounding.specs.Step.{Replaced}
-use Rattle.rounding.proofs.Ops.{val-neg}
 use Rattle.rounding.proofs.Operands.{neg-finite}
 use Rattle.rounding.proofs.Compare.{lt-not, mag-sum, size-mag}
 use Rattle.rounding.proofs.Limits.{val-above}

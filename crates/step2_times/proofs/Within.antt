@@ -1,13 +1,12 @@
 -- Seven accepted times: each is 8 at most, and an error of their sum is an error of how long the motion lasts. Assumes nothing.
 use mathlib.Core.Path.{_≡_, refl, sym, subst}
 use Prim.Native.Nat.{ℕ, _+_, _*_, _≤_, _<_}
-use native.Mathlib.Nat.{le-trans, mul-le-mul-right}
 use native.Mathlib.Omega.{arith}
-use lib.Dec.{T, leb, leb→le, lit≤}
+use lib.Dec.{T, leb, lit≤}
 use lib.Ieee.{Float, binary64, neg, sub, fits}
 use lib.Ieee.Fits.{add-fits}
 use Rattle.float.specs.Ops.{_⊕_, _⊖_, _⊗_, #0, #2}
-use Rattle.rounding.specs.Exact.{D, nought, Near, Size, Same, _⊞_, _⊟_, _⊙_}
+use Rattle.rounding.specs.Exact.{D, nought, Same, _⊞_, _⊟_, _⊙_}
 use Rattle.rounding.specs.Value.{unit, mag, val, Finite}
 use Rattle.rounding.specs.Bounds.{Off, Sized, On}
 use Rattle.rounding.specs.Motion.{lasts, elapsed}
@@ -16,7 +15,7 @@ use Rattle.rounding.proofs.Compare.{val-size}
 use Rattle.rounding.proofs.Operands.{add-finite, neg-finite}
 use Rattle.rounding.proofs.Literals.{val-0}
 use Rattle.rounding.proofs.Errors.{off-as, off-within}
-use Rattle.rounding.proofs.Sizes.{about, about-off, on, sized}
+use Rattle.rounding.proofs.Sizes.{about, about-off, sized}
 use Rattle.rounding.proofs.Negations.{about-neg, sized-neg}
 use Rattle.rounding.proofs.Sums.{sum-back, on-sum, left-sized, right-sized}
 use Rattle.rounding.proofs.Products.{on-twice}
