@@ -1,4 +1,5 @@
--- From a yes of `check` to exact numbers: all that it added up is finite, no time is negative, and each test at the end as a bound. Assumes nothing.
+-- From a yes of `check` to exact numbers: all that it added up is finite, no time is negative, and each test at the end
+-- as a bound. Assumes nothing.
 use mathlib.Core.Path.{_≡_, refl, sym, ap, _∙_, subst}
 use mathlib.Core.Bool.{Bool, true, false, not, _&&_}
 use mathlib.Core.List.{List}
@@ -67,13 +68,19 @@ abs-fits (fin s (suc m) e) h = h
 close : (x f c : Float) → Number c → lt (absOf (x ⊖ f)) c ≡ true → Finite (x ⊖ f) × Size (val (x ⊖ f)) (mag c)
 close x f c g h =
     let d = x ⊖ f in
-    let l = lt-finite (absOf d) c (abs-sign d) (is-true h) in
-    (abs-finite d l, lt-size (absOf d) d c (abs-fits d (sub-fits binary64 x f)) (g .held) l (g .finite) (abs-val d) (is-true h))
+    let l = lt-finite (absOf d) c (abs-sign d) (is-true h) in (
+      abs-finite d l,
+      lt-size (absOf d) d c (abs-fits d (sub-fits binary64 x f)) (g .held) l (g .finite) (abs-val d)
+          (is-true h),
+    )
 
 -- ---- the jerks: ±jf or 0, and 0 where the time is not above 0
-pub jerk-is : (signs : ControlSigns) (t : List Float) (jf : Float) (i : ℕ) → i < 7 → getD (jerksOf signs t jf) i nan ≡ jerkOf (getD (signsOf signs) i Zero) (getD t i nan) jf
+pub jerk-is : (signs : ControlSigns) (t : List Float) (jf : Float) (i : ℕ) → i < 7
+    → getD (jerksOf signs t jf) i nan ≡ jerkOf (getD (signsOf signs) i Zero) (getD t i nan) jf
 unfolding jerksOf
-jerk-is signs t jf = by-seven (λ (i : ℕ). getD (jerksOf signs t jf) i nan ≡ jerkOf (getD (signsOf signs) i Zero) (getD t i nan) jf) refl refl refl refl refl refl refl
+jerk-is signs t jf =
+    by-seven (λ (i : ℕ). getD (jerksOf signs t jf) i nan ≡ jerkOf (getD (signsOf signs) i Zero) (getD t i nan) jf) refl
+    refl refl refl refl refl refl
 
 signed-fits : (s : Sign) (jf : Float) → T (fits binary64 jf) → T (fits binary64 (signedOf s jf))
 signed-fits Plus jf h = h
@@ -99,9 +106,11 @@ pub record Kept (v-max v-min a-max a-min : Float) (q : Profile) : Type 0 where
   pub v5 : Inside (lower v-max v-max v-min) (node q 5 .v) (upper v-max v-max v-min)
   pub v6 : Inside (lower v-max v-max v-min) (node q 6 .v) (upper v-max v-max v-min)
 
-module _ {signs : ControlSigns} {limits : ReachedLimits} {jf v-max v-min a-max a-min : Float} {q q' : Profile} (y : Yes signs limits jf v-max v-min a-max a-min q q') where
+module _ {signs : ControlSigns} {limits : ReachedLimits} {jf v-max v-min a-max a-min : Float} {q q' : Profile}
+    (y : Yes signs limits jf v-max v-min a-max a-min q q') where
   -- ---- the three tests at the end
-  ends : (lt (absOf (node q' 7 .p ⊖ q' .pf)) #1e-8 ≡ true) × (lt (absOf (node q' 7 .v ⊖ q' .vf)) #1e-8 ≡ true) × (lt (absOf (node q' 7 .a ⊖ q' .af)) #1e-10 ≡ true)
+  ends : (lt (absOf (node q' 7 .p ⊖ q' .pf)) #1e-8 ≡ true) × (lt (absOf (node q' 7 .v ⊖ q' .vf)) #1e-8 ≡ true)
+      × (lt (absOf (node q' 7 .a ⊖ q' .af)) #1e-10 ≡ true)
   unfolding arrivedOf
   ends =
       let p = lt (absOf (node q' 7 .p ⊖ q' .pf)) #1e-8 in
@@ -121,18 +130,31 @@ module _ {signs : ControlSigns} {limits : ReachedLimits} {jf v-max v-min a-max a
 
   -- ---- all is finite: the times, the jerks and the recorded numbers before the end; and the end
   pub yes-finite : (i : ℕ) → i < 7 → AllFinite (time q' i) (jerk q' i) (node q' i)
-  yes-finite = all-finite (time q') (jerk q') (node q') 7 (λ (i : ℕ) (l : i < 7). ap (λ (z : Node). z .p) (y .step i l)) (sub-finite (node q' 7 .p) (q' .pf) (end-p .0) .0)
+  yes-finite =
+      all-finite (time q') (jerk q') (node q') 7 (λ (i : ℕ) (l : i < 7). ap (λ (z : Node). z .p) (y .step i l))
+      (sub-finite (node q' 7 .p) (q' .pf) (end-p .0) .0)
 
   pub end-finite : Finite (node q' 7 .a) × Finite (node q' 7 .v) × Finite (node q' 7 .p)
-  end-finite = (sub-finite (node q' 7 .a) (q' .af) (end-a .0) .0, sub-finite (node q' 7 .v) (q' .vf) (end-v .0) .0, sub-finite (node q' 7 .p) (q' .pf) (end-p .0) .0)
+  end-finite = (
+    sub-finite (node q' 7 .a) (q' .af) (end-a .0) .0,
+    sub-finite (node q' 7 .v) (q' .vf) (end-v .0) .0,
+    sub-finite
+        (node q' 7 .p) (q' .pf) (end-p .0) .0,
+  )
 
   pub held-jerk : T (fits binary64 jf) → (i : ℕ) → i < 7 → T (fits binary64 (jerk q' i))
-  held-jerk f i l = subst (λ (z : Float). T (fits binary64 z)) (sym (ap (λ (t : List Float). getD t i nan) (y .j-is) ∙ jerk-is signs (q .t) jf i l)) (jerk-fits (getD (signsOf signs) i Zero) (time q i) jf f)
+  held-jerk f i l =
+      subst (λ (z : Float). T (fits binary64 z))
+      (sym (ap (λ (t : List Float). getD t i nan) (y .j-is) ∙ jerk-is signs (q .t) jf i l))
+      (jerk-fits (getD (signsOf signs) i Zero) (time q i) jf f)
 
   module _ (h : Held q) where
     -- no time is negative, so that the exact sum of the times is the sum of their sizes
     pub time-above : (i : ℕ) → i < 7 → Below nought (val (time q' i))
-    time-above i l = subst (λ (z : D). Below z (val (time q' i))) val-0 (lt-not (time q' i) #0 (held-left (y .carried) h .held-t i l) (number-0 .held) (yes-finite i l .t-finite) (number-0 .finite) (is-false (y .not-negative i l)))
+    time-above i l =
+        subst (λ (z : D). Below z (val (time q' i))) val-0
+        (lt-not (time q' i) #0 (held-left (y .carried) h .held-t i l) (number-0 .held) (yes-finite i l .t-finite)
+        (number-0 .finite) (is-false (y .not-negative i l)))
 
     pub total-is : Same (lasts (time q') 7) (signed false (elapsed (time q') 7))
     total-is = lasts-elapsed (time q') 7 time-above

@@ -18,12 +18,15 @@ use Rattle.rounding.proofs.Limits.{limit-above, limit-below}
 use Rattle.rounding.proofs.Run.{recorded, sized-a, sized-v, sized-p}
 use Rattle.profile_arrives.specs.Arrives.{part, At, Between, proved}
 use Rattle.profile_arrives.proofs.Facts.{Inside}
-use Rattle.profile_arrives.proofs.Distances.{fine-1e-8, fine-1e-10, fine-1e-12, at-most-one, lands, not-over, not-under}
+use Rattle.profile_arrives.proofs.Distances.{fine-1e-8, fine-1e-10, fine-1e-12, at-most-one, lands, not-over}
+use Rattle.profile_arrives.proofs.Distances.{not-under}
 
 -- ---- one recorded number between two limits
-module _ (K : ℕ) {x : Float} {X : D} {c R : ℕ} (C : ℕ) (o : Off (K * unit) (K ⊙ val x) X c) (z : Sized unit x R) (few : T (leb (2 * R) (2 ^ 53)))
+module _ (K : ℕ) {x : Float} {X : D} {c R : ℕ} (C : ℕ) (o : Off (K * unit) (K ⊙ val x) X c) (z : Sized unit x R)
+    (few : T (leb (2 * R) (2 ^ 53)))
     (k : c + (R + 1) + 1 ≤ C) where
-  between : (low upp : Float) → Number low → Number upp → Inside low x upp → Between (part 1_000_000_000_000 C) K low X upp
+  between : (low upp : Float) → Number low → Number upp → Inside low x upp
+      → Between (part 1_000_000_000_000 C) K low X upp
   between low upp u w h =
       let M = mag #1e-12 in
       let small = at-most-one M 1_000_000_000_000 (2 ^ 53) unit (lit≤ tt) (lit≤ tt) fine-1e-12 in
@@ -31,10 +34,12 @@ module _ (K : ℕ) {x : Float} {X : D} {c R : ℕ} (C : ℕ) (o : Off (K * unit)
       record {
         above =
             not-under K x X c o low M 1_000_000_000_000 C R fine-1e-12 tt k
-            (limit-below x low #1e-12 R M (z .held) (u .held) (t .held) (z .finite) (u .finite) (t .finite) val-1e-12 small (z .size) few (h .0));
+            (limit-below x low #1e-12 R M (z .held) (u .held) (t .held) (z .finite) (u .finite) (t .finite) val-1e-12
+            small (z .size) few (h .0));
         below =
             not-over K x X c o upp M 1_000_000_000_000 C R fine-1e-12 tt k
-            (limit-above x upp #1e-12 R M (z .held) (w .held) (t .held) (z .finite) (w .finite) (t .finite) val-1e-12 small (z .size) few (h .1));
+            (limit-above x upp #1e-12 R M (z .held) (w .held) (t .held) (z .finite) (w .finite) (t .finite) val-1e-12
+            small (z .size) few (h .1));
       }
 
 -- ---- the nodes of a run
@@ -47,7 +52,8 @@ module _ {r : ℕ} {t j : ℕ → Float} {n : ℕ → Node} (z : Run r t j n) wh
 
   pub v-between : (i : ℕ) → i ≤ 7 → (low upp : Float) → Number low → Number upp → Inside low (n i .v) upp
       → Between (proved r .velocity-limit) perV low (state-at i .v) upp
-  v-between i l = between perV (offV r + 4171) (recorded z i l .v) (sized-v z i l) tt (fits-in (offV r) 4170 1 4171 refl)
+  v-between i l =
+      between perV (offV r + 4171) (recorded z i l .v) (sized-v z i l) tt (fits-in (offV r) 4170 1 4171 refl)
 
   pub a-between : (i : ℕ) → i ≤ 7 → (low upp : Float) → Number low → Number upp → Inside low (n i .a) upp
       → Between (proved r .acceleration-limit) perA low (state-at i .a) upp
@@ -59,17 +65,20 @@ module _ {r : ℕ} {t j : ℕ → Float} {n : ℕ → Node} (z : Run r t j n) wh
   pub at-p : (f : Float) → T (fits binary64 f) → Finite (n 7 .p ⊖ f) × Size (val (n 7 .p ⊖ f)) (mag #1e-8)
       → At (proved r .position) perP (state-at 7 .p) f
   at-p f g h =
-      lands perP (n 7 .p) (state-at 7 .p) (offP r) (recorded z 7 end .p) f (mag #1e-8) 100_000_000 (offP r + 2) (sized-p z 7 end .held) g
+      lands perP (n 7 .p) (state-at 7 .p) (offP r) (recorded z 7 end .p) f (mag #1e-8) 100_000_000 (offP r + 2)
+      (sized-p z 7 end .held) g
       (h .0) (h .1) fine-1e-8 tt (fits-in (offP r) 1 1 2 refl)
 
   pub at-v : (f : Float) → T (fits binary64 f) → Finite (n 7 .v ⊖ f) × Size (val (n 7 .v ⊖ f)) (mag #1e-8)
       → At (proved r .velocity) perV (state-at 7 .v) f
   at-v f g h =
-      lands perV (n 7 .v) (state-at 7 .v) (offV r) (recorded z 7 end .v) f (mag #1e-8) 100_000_000 (offV r + 2) (sized-v z 7 end .held) g
+      lands perV (n 7 .v) (state-at 7 .v) (offV r) (recorded z 7 end .v) f (mag #1e-8) 100_000_000 (offV r + 2)
+      (sized-v z 7 end .held) g
       (h .0) (h .1) fine-1e-8 tt (fits-in (offV r) 1 1 2 refl)
 
   pub at-a : (f : Float) → T (fits binary64 f) → Finite (n 7 .a ⊖ f) × Size (val (n 7 .a ⊖ f)) (mag #1e-10)
       → At (proved r .acceleration) perA (state-at 7 .a) f
   at-a f g h =
-      lands perA (n 7 .a) (state-at 7 .a) (offA r) (recorded z 7 end .a) f (mag #1e-10) 10_000_000_000 (offA r + 2) (sized-a z 7 end .held) g
+      lands perA (n 7 .a) (state-at 7 .a) (offA r) (recorded z 7 end .a) f (mag #1e-10) 10_000_000_000 (offA r + 2)
+      (sized-a z 7 end .held) g
       (h .0) (h .1) fine-1e-10 tt (fits-in (offA r) 1 1 2 refl)

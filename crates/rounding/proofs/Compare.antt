@@ -1,8 +1,10 @@
--- What a comparison of finite f64s says of their values, and what any true comparison says of its operands. Assumes nothing.
+-- What a comparison of finite f64s says of their values, and what any true comparison says of its operands. Assumes
+-- nothing.
 use mathlib.Core.Path.{_≡_, refl, sym, _∙_, subst}
 use mathlib.Core.Logic.{_⊎_, inl, inr}
 use Prim.Native.Nat.{ℕ, _+_, _*_, _≤_, _<_}
-use native.Mathlib.Nat.{le-of-eq, le-antisymm, lt-of-le-of-lt, lt-of-lt-of-le, zero-mul, mul-pos, mul-lt-mul-of-pos-right, lt-of-mul-lt-mul-right}
+use native.Mathlib.Nat.{le-of-eq, le-antisymm, lt-of-le-of-lt, lt-of-lt-of-le, zero-mul, mul-pos}
+use native.Mathlib.Nat.{mul-lt-mul-of-pos-right, lt-of-mul-lt-mul-right}
 use native.Mathlib.Omega.{arith}
 use mathlib.Core.Bool.{Bool, true, false, not, _||_, Bool·beq, true≢false}
 use lib.IntN.{ℤ}
@@ -13,9 +15,12 @@ use Rattle.rounding.specs.Exact.{D, signed, Size, Below, Less, Same}
 use Rattle.rounding.specs.Value.{unit, mag, sign, val, Finite}
 use Rattle.rounding.proofs.Unit.{mag-exact, unit-pos, cross, cross', both-in, le-in}
 
--- ---- a comparison goes by the sizes a and b over one denominator; in units they are X and Y: a * U ≡ X * c and b * U ≡ Y * c
+-- ---- a comparison goes by the sizes a and b over one denominator; in units they are X and Y: a * U ≡ X * c and b * U
+-- ≡ Y * c
 lt-in : (a b c X Y U : ℕ) → 0 < U → a * U ≡ X * c → b * U ≡ Y * c → a < b → X < Y
-lt-in a b c X Y U P p q h = lt-of-mul-lt-mul-right c (lt-of-le-of-lt (le-of-eq (sym p)) (lt-of-lt-of-le (mul-lt-mul-of-pos-right h P) (le-of-eq q)))
+lt-in a b c X Y U P p q h =
+    lt-of-mul-lt-mul-right c
+    (lt-of-le-of-lt (le-of-eq (sym p)) (lt-of-lt-of-le (mul-lt-mul-of-pos-right h P) (le-of-eq q)))
 
 no-size : (c U : ℕ) → 0 * U ≡ 0 * c
 no-size c U = zero-mul U ∙ sym (zero-mul c)
@@ -29,13 +34,15 @@ module _ (a b c X Y U : ℕ) (C : 0 < c) (P : 0 < U) (p : a * U ≡ X * c) (q : 
   below-less false false h = omega (arith, lt-in a b c X Y U P p q (ltb→lt a b h))
   below-less false true h = absurd h
   below-less true true h = omega (arith, lt-in b a c Y X U P q p (ltb→lt b a h))
-  below-less true false h = omega (arith, lt-in 0 (a + b) c 0 (X + Y) U P (no-size c U) (both-in a b c X Y U p q) (ltb→lt 0 (a + b) h))
+  below-less true false h =
+      omega (arith, lt-in 0 (a + b) c 0 (X + Y) U P (no-size c U) (both-in a b c X Y U p q) (ltb→lt 0 (a + b) h))
 
   below-not : (s t : Bool) → T (not (below s a t b)) → Below (signed t Y) (signed s X)
   below-not false false h = omega (arith, le-in b a c Y X U C q p (nltb→le a b h))
   below-not false true h = omega arith
   below-not true true h = omega (arith, le-in a b c X Y U C p q (nltb→le b a h))
-  below-not true false h = omega (arith, le-in (a + b) 0 c (X + Y) 0 U C (both-in a b c X Y U p q) (no-size c U) (nltb→le 0 (a + b) h))
+  below-not true false h =
+      omega (arith, le-in (a + b) 0 c (X + Y) 0 U C (both-in a b c X Y U p q) (no-size c U) (nltb→le 0 (a + b) h))
 
   equal : a ≡ b → X ≡ Y
   equal e = le-antisymm (le-in a b c X Y U C p q (le-of-eq e)) (le-in b a c Y X U C q p (le-of-eq (sym e)))
@@ -44,7 +51,9 @@ module _ (a b c X Y U : ℕ) (C : 0 < c) (P : 0 < U) (p : a * U ≡ X * c) (q : 
   none e = le-in a 0 c X 0 U C p (no-size c U) (le-of-eq e)
 
   level-same : (s t : Bool) → T (level s a t b) → Same (signed s X) (signed t Y)
-  level-same s t h = go s t (equal (eqb→eq a b (and-l (eqb a b) (Bool·beq s t || eqb a 0) h))) (or-cases (Bool·beq s t) (eqb a 0) (and-r (eqb a b) (Bool·beq s t || eqb a 0) h))
+  level-same s t h =
+      go s t (equal (eqb→eq a b (and-l (eqb a b) (Bool·beq s t || eqb a 0) h)))
+      (or-cases (Bool·beq s t) (eqb a 0) (and-r (eqb a b) (Bool·beq s t || eqb a 0) h))
     where
       go : (s t : Bool) → X ≡ Y → T (Bool·beq s t) ⊎ T (eqb a 0) → Same (signed s X) (signed t Y)
       go true true e k = omega arith
@@ -55,7 +64,8 @@ module _ (a b c X Y U : ℕ) (C : 0 < c) (P : 0 < U) (p : a * U ≡ X * c) (q : 
       go false true e (inr k) = omega (arith, none (eqb→eq a 0 k))
 
 -- ---- finite floats
-module _ (s : Bool) (m : ℕ) (e : ℤ) (t : Bool) (n : ℕ) (d : ℤ) (f : T (fits binary64 (fin s m e))) (g : T (fits binary64 (fin t n d))) where
+module _ (s : Bool) (m : ℕ) (e : ℤ) (t : Bool) (n : ℕ) (d : ℤ) (f : T (fits binary64 (fin s m e)))
+    (g : T (fits binary64 (fin t n d))) where
   C : 0 < down e * down d
   C = mul-pos (down-pos e) (down-pos d)
 
@@ -67,39 +77,49 @@ module _ (s : Bool) (m : ℕ) (e : ℤ) (t : Bool) (n : ℕ) (d : ℤ) (f : T (f
 
   fin-less : T (lt (fin s m e) (fin t n d)) → Less (val (fin s m e)) (val (fin t n d))
   unfolding lt val sign
-  fin-less h = below-less (m * up e * down d) (n * up d * down e) (down e * down d) (mag (fin s m e)) (mag (fin t n d)) unit C unit-pos p q s t h
+  fin-less h =
+      below-less (m * up e * down d) (n * up d * down e) (down e * down d) (mag (fin s m e)) (mag (fin t n d)) unit C
+      unit-pos p q s t h
 
   fin-not : T (not (lt (fin s m e) (fin t n d))) → Below (val (fin t n d)) (val (fin s m e))
   unfolding lt val sign
-  fin-not h = below-not (m * up e * down d) (n * up d * down e) (down e * down d) (mag (fin s m e)) (mag (fin t n d)) unit C unit-pos p q s t h
+  fin-not h =
+      below-not (m * up e * down d) (n * up d * down e) (down e * down d) (mag (fin s m e)) (mag (fin t n d)) unit C
+      unit-pos p q s t h
 
   fin-same : T (eq (fin s m e) (fin t n d)) → Same (val (fin s m e)) (val (fin t n d))
   unfolding eq val sign
-  fin-same h = level-same (m * up e * down d) (n * up d * down e) (down e * down d) (mag (fin s m e)) (mag (fin t n d)) unit C unit-pos p q s t h
+  fin-same h =
+      level-same (m * up e * down d) (n * up d * down e) (down e * down d) (mag (fin s m e)) (mag (fin t n d)) unit C
+      unit-pos p q s t h
 
 -- `lt`, `le` and `eq` of finite floats, true and false
-pub lt-less : (x y : Float) → T (fits binary64 x) → T (fits binary64 y) → Finite x → Finite y → T (lt x y) → Less (val x) (val y)
+pub lt-less : (x y : Float) → T (fits binary64 x) → T (fits binary64 y) → Finite x → Finite y → T (lt x y)
+    → Less (val x) (val y)
 lt-less nan y f g k l h = absurd k
 lt-less (inf s) y f g k l h = absurd k
 lt-less (fin s m e) nan f g k l h = absurd l
 lt-less (fin s m e) (inf t) f g k l h = absurd l
 lt-less (fin s m e) (fin t n d) f g k l h = fin-less s m e t n d f g h
 
-pub lt-not : (x y : Float) → T (fits binary64 x) → T (fits binary64 y) → Finite x → Finite y → T (not (lt x y)) → Below (val y) (val x)
+pub lt-not : (x y : Float) → T (fits binary64 x) → T (fits binary64 y) → Finite x → Finite y → T (not (lt x y))
+    → Below (val y) (val x)
 lt-not nan y f g k l h = absurd k
 lt-not (inf s) y f g k l h = absurd k
 lt-not (fin s m e) nan f g k l h = absurd l
 lt-not (fin s m e) (inf t) f g k l h = absurd l
 lt-not (fin s m e) (fin t n d) f g k l h = fin-not s m e t n d f g h
 
-pub eq-same : (x y : Float) → T (fits binary64 x) → T (fits binary64 y) → Finite x → Finite y → T (eq x y) → Same (val x) (val y)
+pub eq-same : (x y : Float) → T (fits binary64 x) → T (fits binary64 y) → Finite x → Finite y → T (eq x y)
+    → Same (val x) (val y)
 eq-same nan y f g k l h = absurd k
 eq-same (inf s) y f g k l h = absurd k
 eq-same (fin s m e) nan f g k l h = absurd l
 eq-same (fin s m e) (inf t) f g k l h = absurd l
 eq-same (fin s m e) (fin t n d) f g k l h = fin-same s m e t n d f g h
 
-pub le-below : (x y : Float) → T (fits binary64 x) → T (fits binary64 y) → Finite x → Finite y → T (le x y) → Below (val x) (val y)
+pub le-below : (x y : Float) → T (fits binary64 x) → T (fits binary64 y) → Finite x → Finite y → T (le x y)
+    → Below (val x) (val y)
 unfolding le
 le-below x y f g k l h = go (or-cases (lt x y) (eq x y) h)
   where
@@ -154,8 +174,11 @@ lt-finite (inf false) (inf t) z h = absurd h
 lt-finite (inf false) (fin t n d) z h = absurd h
 lt-finite (fin s m e) c z h = tt
 
-pub lt-size : (a d c : Float) → T (fits binary64 a) → T (fits binary64 c) → Finite a → Finite c → val a ≡ signed false (mag d) → T (lt a c) → Size (val d) (mag c)
-lt-size a d c f g k l e h = go (val d) (val c) (mag d) (mag c) (val-size d) (val-size c) (subst (λ (z : D). Less z (val c)) e (lt-less a c f g k l h))
+pub lt-size : (a d c : Float) → T (fits binary64 a) → T (fits binary64 c) → Finite a → Finite c
+    → val a ≡ signed false (mag d) → T (lt a c) → Size (val d) (mag c)
+lt-size a d c f g k l e h =
+    go (val d) (val c) (mag d) (mag c) (val-size d) (val-size c)
+    (subst (λ (z : D). Less z (val c)) e (lt-less a c f g k l h))
   where
     go : (x y : D) (m n : ℕ) → Size x m → Size y n → Less (signed false m) y → Size x n
     go x y m n a b c = omega arith

@@ -95,7 +95,8 @@ off-one {S} {a} {b} {β} o h = wide a b (o .err) S (o .near) (le-of-mul-le-mul-r
     wide a b e f h k = omega arith
 
 -- so a number is one more at most than the other
-pub off-size : {S : ℕ} {a b : D} {β : ℕ} (R : ℕ) → Off S a b β → T (leb β (2 ^ 53)) → Size b (R * S) → Size a ((R + 1) * S)
+pub off-size : {S : ℕ} {a b : D} {β : ℕ} (R : ℕ) → Off S a b β → T (leb β (2 ^ 53)) → Size b (R * S)
+    → Size a ((R + 1) * S)
 off-size {S} {a} {b} R o h s = grown a b R S (off-one o h) s
   where
     grown : (a b : D) (R S : ℕ) → Near a b S → Size b (R * S) → Size a ((R + 1) * S)

@@ -1,4 +1,5 @@
--- Steps with exact numbers that the other files share: sums, multiples and products of numbers that are near. Assumes nothing.
+-- Steps with exact numbers that the other files share: sums, multiples and products of numbers that are near. Assumes
+-- nothing.
 use mathlib.Core.Path.{_≡_, ap, ap₂}
 use mathlib.Core.Logic.{_⊎_, inl, inr}
 use Prim.Native.Nat.{ℕ, _+_, _-_, _*_, _≤_, _<_}
@@ -77,7 +78,11 @@ pub size-times : (k : ℕ) (a : D) (e : ℕ) → Size a e → Size (k ⊙ a) (k 
 size-times k a e h = omega (arith, mul-le-mul-left k (h .over), mul-le-mul-left k (h .under))
 
 pub size-divide : (k : ℕ) (a : D) (e : ℕ) → 0 < k → Size (k ⊙ a) (k * e) → Size a e
-size-divide k a e K h = record { over = le-of-mul-le-mul-left (spread k (a .p) (a .n) e (h .over)) K; under = le-of-mul-le-mul-left (spread k (a .n) (a .p) e (h .under)) K }
+size-divide k a e K h =
+    record {
+      over = le-of-mul-le-mul-left (spread k (a .p) (a .n) e (h .over)) K;
+      under = le-of-mul-le-mul-left (spread k (a .n) (a .p) e (h .under)) K;
+    }
   where
     spread : (k x y e : ℕ) → k * x ≤ k * y + k * e → k * x ≤ k * (y + e)
     spread k x y e h = omega arith
@@ -101,7 +106,15 @@ abbrev crossed : ℕ → ℕ → ℕ → ℕ → ℕ → Type 0
 crossed p n q m z = (p * q + n * m ≤ p * m + n * q + z) × (p * m + n * q ≤ p * q + n * m + z)
 
 cross-of : (p n q m c d e f : ℕ) → p ≡ n + c → q ≡ m + d → p ≤ n + e → q ≤ m + f → crossed p n q m (e * f)
-cross-of p n q m c d e f u w x y = omega (arith, ap (λ (z : ℕ). z * q) u, ap (λ (z : ℕ). z * m) u, ap (λ (z : ℕ). c * z) w, mul-le-mul (less p n c e u x) (less q m d f w y))
+cross-of p n q m c d e f u w x y =
+    omega (
+      arith,
+      ap (λ (z : ℕ). z * q) u,
+      ap (λ (z : ℕ). z * m) u,
+      ap (λ (z : ℕ). c * z) w,
+      mul-le-mul (less p n c e u x)
+          (less q m d f w y),
+    )
   where
     less : (x y z w : ℕ) → x ≡ y + z → x ≤ y + w → z ≤ w
     less x y z w p q = omega arith
@@ -109,7 +122,8 @@ cross-of p n q m c d e f u w x y = omega (arith, ap (λ (z : ℕ). z * q) u, ap 
 pub size-product : (a b : D) (e f : ℕ) → Size a e → Size b f → Size (a ⊠ b) (e * f)
 size-product a b e f h k = let r = apart (a .p) (a .n) in let s = apart (b .p) (b .n) in go (r .0) (s .0) (r .1) (s .1)
   where
-    go : (c d : ℕ) → (a .p ≡ a .n + c) ⊎ (a .n ≡ a .p + c) → (b .p ≡ b .n + d) ⊎ (b .n ≡ b .p + d) → Size (a ⊠ b) (e * f)
+    go : (c d : ℕ) → (a .p ≡ a .n + c) ⊎ (a .n ≡ a .p + c) → (b .p ≡ b .n + d) ⊎ (b .n ≡ b .p + d)
+        → Size (a ⊠ b) (e * f)
     go c d (inl u) (inl w) = omega (arith, cross-of (a .p) (a .n) (b .p) (b .n) c d e f u w (h .over) (k .over))
     go c d (inl u) (inr w) = omega (arith, cross-of (a .p) (a .n) (b .n) (b .p) c d e f u w (h .over) (k .under))
     go c d (inr u) (inl w) = omega (arith, cross-of (a .n) (a .p) (b .p) (b .n) c d e f u w (h .under) (k .over))

@@ -23,7 +23,11 @@ neg-size x M s = size-opposite (opposite (val x)) M (subst (λ (z : D). Size z M
 
 pub sized-neg : {S : ℕ} {x : Float} {R : ℕ} → Sized S x R → Sized S (neg x) R
 sized-neg {S} {x} {R} z =
-    record { held = neg-fits binary64 x (z .held); finite = finite-neg x (z .finite); size = size-neg x (R * S) (z .size) }
+    record {
+      held = neg-fits binary64 x (z .held);
+      finite = finite-neg x (z .finite);
+      size = size-neg x (R * S) (z .size);
+    }
 
 pub neg-sized : {S : ℕ} (x : Float) {R : ℕ} → T (fits binary64 x) → Sized S (neg x) R → Sized S x R
 neg-sized {S} x {R} f z = record { held = f; finite = neg-finite x (z .finite); size = neg-size x (R * S) (z .size) }
@@ -32,8 +36,11 @@ pub about-neg : {S : ℕ} {x : Float} {K : ℕ} {X : D} {β : ℕ} → About S x
 about-neg {S} {x} {K} {X} {β} a =
     record {
       held = neg-fits binary64 x (a .held);
-      off = λ k. subst (λ (z : D). Off (K * S) (K ⊙ z) (opposite X) β) (sym (val-neg x)) (off-neg (a .off (neg-finite x k)));
+      off =
+          λ k. subst (λ (z : D). Off (K * S) (K ⊙ z) (opposite X) β) (sym (val-neg x))
+          (off-neg (a .off (neg-finite x k)));
     }
 
 pub on-neg : {S : ℕ} {x : Float} {R K : ℕ} {X : D} {β : ℕ} → On S x R K X β → On S (neg x) R K (opposite X) β
-on-neg {S} {x} {R} a = record { about = about-neg (a .about); size = λ k. size-neg x (R * S) (a .size (neg-finite x k)) }
+on-neg {S} {x} {R} a =
+    record { about = about-neg (a .about); size = λ k. size-neg x (R * S) (a .size (neg-finite x k)) }

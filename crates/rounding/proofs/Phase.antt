@@ -1,4 +1,5 @@
--- One phase: the f64 step against the exact step from the same state, and the exact steps from two states that are near.
+-- One phase: the f64 step against the exact step from the same state, and the exact steps from two states that are
+-- near.
 -- Assumes nothing.
 use mathlib.Core.Path.{_≡_, refl, ap, _∙_, subst}
 use Prim.Native.Nat.{ℕ, _+_, _*_, _^_, _≤_}
@@ -50,13 +51,17 @@ phase-spelled t j s = (place t j (s .p) (s .v) (s .a), speed t j (s .v) (s .a), 
     outer : (t v y z : D) → Same (t ⊠ (3 ⊙ v ⊞ (3 ⊙ y ⊞ z))) (3 ⊙ (t ⊠ v) ⊞ 3 ⊙ (t ⊠ y) ⊞ t ⊠ z)
     outer t v y z = omega arith
 
-    gather : (p q m w b c b' c' : D) → Same q m → Same m (3 ⊙ w ⊞ 3 ⊙ b ⊞ c) → Same b b' → Same c c' → Same (p ⊞ q) (p ⊞ 3 ⊙ w ⊞ 3 ⊙ b' ⊞ c')
+    gather : (p q m w b c b' c' : D) → Same q m → Same m (3 ⊙ w ⊞ 3 ⊙ b ⊞ c) → Same b b' → Same c c'
+        → Same (p ⊞ q) (p ⊞ 3 ⊙ w ⊞ 3 ⊙ b' ⊞ c')
     gather p q m w b c b' c' h k f g = omega arith
 
-    place : (t j p v a : D) → Same (p ⊞ t ⊠ (3 ⊙ v ⊞ t ⊠ (3 ⊙ a ⊞ t ⊠ j))) (p ⊞ 3 ⊙ (t ⊠ v) ⊞ 3 ⊙ (t ⊠ t ⊠ a) ⊞ t ⊠ t ⊠ t ⊠ j)
+    place : (t j p v a : D)
+        → Same (p ⊞ t ⊠ (3 ⊙ v ⊞ t ⊠ (3 ⊙ a ⊞ t ⊠ j))) (p ⊞ 3 ⊙ (t ⊠ v) ⊞ 3 ⊙ (t ⊠ t ⊠ a) ⊞ t ⊠ t ⊠ t ⊠ j)
     place t j p v a =
-        gather p (t ⊠ (3 ⊙ v ⊞ t ⊠ (3 ⊙ a ⊞ t ⊠ j))) (t ⊠ (3 ⊙ v ⊞ (3 ⊙ (t ⊠ a) ⊞ t ⊠ t ⊠ j))) (t ⊠ v) (t ⊠ (t ⊠ a)) (t ⊠ (t ⊠ t ⊠ j)) (t ⊠ t ⊠ a) (t ⊠ t ⊠ t ⊠ j)
-        (spread t p v (t ⊠ (3 ⊙ a ⊞ t ⊠ j)) (t ⊠ a) (t ⊠ t ⊠ j) (inner t j a)) (outer t v (t ⊠ a) (t ⊠ t ⊠ j)) (assoc t t a) (cube t j)
+        gather p (t ⊠ (3 ⊙ v ⊞ t ⊠ (3 ⊙ a ⊞ t ⊠ j))) (t ⊠ (3 ⊙ v ⊞ (3 ⊙ (t ⊠ a) ⊞ t ⊠ t ⊠ j))) (t ⊠ v) (t ⊠ (t ⊠ a))
+        (t ⊠ (t ⊠ t ⊠ j)) (t ⊠ t ⊠ a) (t ⊠ t ⊠ t ⊠ j)
+        (spread t p v (t ⊠ (3 ⊙ a ⊞ t ⊠ j)) (t ⊠ a) (t ⊠ t ⊠ j) (inner t j a)) (outer t v (t ⊠ a) (t ⊠ t ⊠ j))
+        (assoc t t a) (cube t j)
 
     speed : (t j v a : D) → Same (v ⊞ t ⊠ (2 ⊙ a ⊞ t ⊠ j)) (v ⊞ 2 ⊙ (t ⊠ a) ⊞ t ⊠ t ⊠ j)
     speed t j v a = omega arith
@@ -87,7 +92,8 @@ step-finite t j n h =
     }
 
 -- ---- b + t y, in f64s, where y is near Y / L: two roundings, and what y was off
-pub step-near : {y : Float} {S L : ℕ} {Y : D} {γ : ℕ} (b t : Float) (R : ℕ) → On unit y S L Y γ → Sized unit b R → Sized unit t 8
+pub step-near : {y : Float} {S L : ℕ} {Y : D} {γ : ℕ} (b t : Float) (R : ℕ) → On unit y S L Y γ → Sized unit b R
+    → Sized unit t 8
     → Finite (b ⊕ t ⊗ y) → T (leb (8 * S + 1) (2 ^ 53)) → T (leb γ (2 ^ 53))
     → (e : ℕ) × Near ((L * unit) ⊙ val (b ⊕ t ⊗ y)) ((L * unit) ⊙ val b ⊞ val t ⊠ Y) e
     × (e * 2 ^ 53 ≤ γ * (L * unit * mag t) + (R + 16 * S + 2) * (L * unit * unit))
@@ -96,8 +102,10 @@ step-near {y} {S} {L} {Y} {γ} b t R q sb st h c d =
     let f = mul-finite t y k .1 in
     let m = on-mul (on st) q unit-52 d c in
     let x = product-off t y 8 S (st .held) (q .about .held) unit-52 (st .size) (q .size f) k in
-    let z = sum-forth b (t ⊗ y) (sb .held) (m .about .held) h (size-sum-in (val b) (val (t ⊗ y)) R (8 * S + 1) unit (sb .size) (m .size k)) in
-    let o = off-sum (off-times (L * unit) z) (off-scale (L * unit * unit) (8 * S + 1) (off-times L x) (le-of-eq (regroup (8 * S + 1) L unit))) in
+    let z = sum-forth b (t ⊗ y) (sb .held) (m .about .held) h
+    (size-sum-in (val b) (val (t ⊗ y)) R (8 * S + 1) unit (sb .size) (m .size k)) in
+    let o = off-sum (off-times (L * unit) z)
+    (off-scale (L * unit * unit) (8 * S + 1) (off-times L x) (le-of-eq (regroup (8 * S + 1) L unit))) in
     let w = off-product (val t) (mag t) (val-size t) (q .about .off f) in (
       o .err + w .err,
       joined L unit (val (b ⊕ t ⊗ y)) (val b) (val (t ⊗ y)) (val t) (val y) Y (o .err) (w .err) (o .near) (w .near),
@@ -107,7 +115,8 @@ step-near {y} {S} {L} {Y} {γ} b t R q sb st h c d =
     regroup : (s L U : ℕ) → s * (L * (U * U)) ≡ s * (L * U * U)
     regroup s L U = omega arith
 
-    joined : (L U : ℕ) (r b m t y Y : D) (e f : ℕ) → Near ((L * U) ⊙ r ⊞ L ⊙ (U ⊙ m)) ((L * U) ⊙ (b ⊞ m) ⊞ L ⊙ (t ⊠ y)) e
+    joined : (L U : ℕ) (r b m t y Y : D) (e f : ℕ)
+        → Near ((L * U) ⊙ r ⊞ L ⊙ (U ⊙ m)) ((L * U) ⊙ (b ⊞ m) ⊞ L ⊙ (t ⊠ y)) e
         → Near (t ⊠ (L ⊙ y)) (t ⊠ Y) f → Near ((L * U) ⊙ r) ((L * U) ⊙ b ⊞ t ⊠ Y) (e + f)
     joined L U r b m t y Y e f h k =
         go ((L * U) ⊙ r) (L ⊙ (U ⊙ m)) ((L * U) ⊙ (b ⊞ m)) ((L * U) ⊙ b) (L ⊙ (t ⊠ y)) (t ⊠ (L ⊙ y)) (t ⊠ Y) e f
@@ -119,10 +128,12 @@ step-near {y} {S} {L} {Y} {γ} b t R q sb st h c d =
         inward : (L : ℕ) (t y : D) → Same (L ⊙ (t ⊠ y)) (t ⊠ (L ⊙ y))
         inward L t y = omega arith
 
-        go : (r m s b u w y : D) (e f : ℕ) → Same s (b ⊞ m) → Same u w → Near (r ⊞ m) (s ⊞ u) e → Near w y f → Near r (b ⊞ y) (e + f)
+        go : (r m s b u w y : D) (e f : ℕ) → Same s (b ⊞ m) → Same u w → Near (r ⊞ m) (s ⊞ u) e → Near w y f
+            → Near r (b ⊞ y) (e + f)
         go r m s b u w y e f p q h k = omega arith
 
-    bounded : (P γ R S L U T e f : ℕ) → e * P ≤ (R + (8 * S + 1) + (8 * S + 1)) * (L * U * U) → f * P ≤ γ * (T * (L * U))
+    bounded : (P γ R S L U T e f : ℕ) → e * P ≤ (R + (8 * S + 1) + (8 * S + 1)) * (L * U * U)
+        → f * P ≤ γ * (T * (L * U))
         → (e + f) * P ≤ γ * (L * U * T) + (R + 16 * S + 2) * (L * U * U)
     bounded P γ R S L U T e f a b = go P γ R S (L * U) (L * U * U) T e f a b
       where
@@ -131,9 +142,11 @@ step-near {y} {S} {L} {Y} {γ} b t R q sb st h c d =
         go P γ R S l N T e f a b = omega arith
 
 -- the same factors, written as `phase` has them
-near-at : (K L : ℕ) (r b t x y z : D) (e : ℕ) → K ≡ L → x ≡ y → Near (K ⊙ r) (K ⊙ b ⊞ t ⊠ (x ⊞ z)) e → Near (L ⊙ r) (L ⊙ b ⊞ t ⊠ (y ⊞ z)) e
+near-at : (K L : ℕ) (r b t x y z : D) (e : ℕ) → K ≡ L → x ≡ y → Near (K ⊙ r) (K ⊙ b ⊞ t ⊠ (x ⊞ z)) e
+    → Near (L ⊙ r) (L ⊙ b ⊞ t ⊠ (y ⊞ z)) e
 near-at K L r b t x y z e k q h =
-    subst (λ (c : ℕ). Near (c ⊙ r) (c ⊙ b ⊞ t ⊠ (y ⊞ z)) e) k (subst (λ (c : D). Near (K ⊙ r) (K ⊙ b ⊞ t ⊠ (c ⊞ z)) e) q h)
+    subst (λ (c : ℕ). Near (c ⊙ r) (c ⊙ b ⊞ t ⊠ (y ⊞ z)) e) k
+    (subst (λ (c : D). Near (K ⊙ r) (K ⊙ b ⊞ t ⊠ (c ⊞ z)) e) q h)
 
 -- ---- the three results of `integrate`. e times 2 ^ 53 is bounded, in the units of `Moving`
 -- the sizes from which a step begins
@@ -146,7 +159,8 @@ pub record Steady (t j : Float) (n : Node) : Type 0 where
 
 module _ (t j : Float) (n : Node) (z : Steady t j n) where
   pub step-a : Finite (stepOf t j n .a)
-      → (e : ℕ) × Near (perA ⊙ val (stepOf t j n .a)) (phase (val t) (val j) (from n) .a) e × (e * 2 ^ 53 ≤ 1547 * (unit * unit))
+      → (e : ℕ) × Near (perA ⊙ val (stepOf t j n .a)) (phase (val t) (val j) (from n) .a) e
+      × (e * 2 ^ 53 ≤ 1547 * (unit * unit))
   unfolding integrateOf
   step-a h =
       let w = step-near (n .a) t 521 (on (z .of-j)) (z .of-a) (z .of-t) h tt tt in (
@@ -171,11 +185,14 @@ module _ (t j : Float) (n : Node) (z : Steady t j n) where
       let slope = on-add (on-whole (2 * unit) (z .of-a)) half tt in
       let w = step-near (n .v) t 4169 slope (z .of-v) (z .of-t) h tt tt in (
         w .0,
-        near-at (2 * unit * unit) perV (val (stepOf t j n .v)) (val (n .v)) (val t) ((2 * unit) ⊙ val (n .a)) (2 ⊙ (perA ⊙ val (n .a))) (val t ⊠ val j) (w .0) (mul-assoc 2 unit unit) (times-times 2 unit (val (n .a))) (w .1),
+        near-at (2 * unit * unit) perV (val (stepOf t j n .v)) (val (n .v)) (val t) ((2 * unit) ⊙ val (n .a))
+            (2 ⊙ (perA ⊙ val (n .a))) (val t ⊠ val j) (w .0) (mul-assoc 2 unit unit) (times-times 2 unit (val (n .a)))
+            (w .1),
         le-trans (w .2) (tidy unit (mag t)),
       )
     where
-      tidy : (U T : ℕ) → 1292 * (2 * U * U * T) + 16635 * (2 * U * U * U) ≤ 2 * (1292 * (U * U * T) + 16635 * (U * U * U))
+      tidy : (U T : ℕ)
+          → 1292 * (2 * U * U * T) + 16635 * (2 * U * U * U) ≤ 2 * (1292 * (U * U * T) + 16635 * (U * U * U))
       tidy U T = omega arith
 
   pub step-p : Finite (stepOf t j n .p)
@@ -185,13 +202,16 @@ module _ (t j : Float) (n : Node) (z : Steady t j n) where
   step-p h =
       let sixth = on-div #6 6 86 172 product val-6 number-6 tt tt tt tt in
       let half = on-div #2 2 261 262 (on (z .of-a)) val-2 number-2 tt tt tt tt in
-      let thrice = on-is (6 * unit) (3 ⊙ (perA ⊙ val (n .a))) (on-times (3 * unit) half) (sixfold unit) (refl-of (times-times 3 unit (val (n .a)))) in
+      let thrice = on-is (6 * unit) (3 ⊙ (perA ⊙ val (n .a))) (on-times (3 * unit) half) (sixfold unit)
+      (refl-of (times-times 3 unit (val (n .a)))) in
       let lift = on-mul (on (z .of-t)) (on-add thrice sixth tt) unit-52 tt tt in
       let slope = on-add (on-whole (1 * (6 * unit) * unit) (z .of-v)) lift tt in
       let w = step-near (n .p) t 33353 slope (z .of-p) (z .of-t) h tt tt in (
         w .0,
-        near-at (1 * (6 * unit) * unit * unit) perP (val (stepOf t j n .p)) (val (n .p)) (val t) ((1 * (6 * unit) * unit) ⊙ val (n .v)) (3 ⊙ (perV ⊙ val (n .v)))
-            (val t ⊠ (3 ⊙ (perA ⊙ val (n .a)) ⊞ val t ⊠ val j)) (w .0) (cubed unit) (ap (λ (c : ℕ). c ⊙ val (n .v)) (squared unit) ∙ times-times 3 perV (val (n .v))) (w .1),
+        near-at (1 * (6 * unit) * unit * unit) perP (val (stepOf t j n .p)) (val (n .p)) (val t)
+            ((1 * (6 * unit) * unit) ⊙ val (n .v)) (3 ⊙ (perV ⊙ val (n .v)))
+            (val t ⊠ (3 ⊙ (perA ⊙ val (n .a)) ⊞ val t ⊠ val j)) (w .0) (cubed unit)
+            (ap (λ (c : ℕ). c ⊙ val (n .v)) (squared unit) ∙ times-times 3 perV (val (n .v))) (w .1),
         le-trans (w .2) (tidy unit (mag t)),
       )
     where
@@ -207,7 +227,9 @@ module _ (t j : Float) (n : Node) (z : Steady t j n) where
       refl-of : {x y : D} → x ≡ y → Same x y
       refl-of {x} e = subst (λ (c : D). Same x c) e refl
 
-      tidy : (U T : ℕ) → 15987 * (1 * (6 * U) * U * U * T) + 144635 * (1 * (6 * U) * U * U * U) ≤ 6 * (15987 * (U * U * U * T) + 144635 * (U * U * U * U))
+      tidy : (U T : ℕ)
+          → 15987 * (1 * (6 * U) * U * U * T) + 144635 * (1 * (6 * U) * U * U * U)
+          ≤ 6 * (15987 * (U * U * U * T) + 144635 * (U * U * U * U))
       tidy U T = omega arith
 
 -- ---- the exact phase from two states that are near: what is carried over
@@ -225,8 +247,10 @@ phase-near t j s s' T a v p h o =
           moved (s .v) (s' .v) (2 ⊙ s .a ⊞ t ⊠ j) (2 ⊙ s' .a ⊞ t ⊠ j) v (2 * a) (o .v-near)
           (plus (2 ⊙ s .a) (2 ⊙ s' .a) (t ⊠ j) (2 * a) (near-times 2 (s .a) (s' .a) a (o .a-near)));
       p-near =
-          moved (s .p) (s' .p) (3 ⊙ s .v ⊞ t ⊠ (3 ⊙ s .a ⊞ t ⊠ j)) (3 ⊙ s' .v ⊞ t ⊠ (3 ⊙ s' .a ⊞ t ⊠ j)) p (3 * v + T * (3 * a)) (o .p-near)
-          (moved (3 ⊙ s .v) (3 ⊙ s' .v) (3 ⊙ s .a ⊞ t ⊠ j) (3 ⊙ s' .a ⊞ t ⊠ j) (3 * v) (3 * a) (near-times 3 (s .v) (s' .v) v (o .v-near))
+          moved (s .p) (s' .p) (3 ⊙ s .v ⊞ t ⊠ (3 ⊙ s .a ⊞ t ⊠ j)) (3 ⊙ s' .v ⊞ t ⊠ (3 ⊙ s' .a ⊞ t ⊠ j)) p
+          (3 * v + T * (3 * a)) (o .p-near)
+          (moved (3 ⊙ s .v) (3 ⊙ s' .v) (3 ⊙ s .a ⊞ t ⊠ j) (3 ⊙ s' .a ⊞ t ⊠ j) (3 * v) (3 * a)
+          (near-times 3 (s .v) (s' .v) v (o .v-near))
           (plus (3 ⊙ s .a) (3 ⊙ s' .a) (t ⊠ j) (3 * a) (near-times 3 (s .a) (s' .a) a (o .a-near))));
     }
   where

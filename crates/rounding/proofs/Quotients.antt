@@ -1,7 +1,9 @@
--- Quotients: by any divisor j, multiplied through by j (`Part`); by a whole literal; and sizes found backwards. Assumes nothing.
+-- Quotients: by any divisor j, multiplied through by j (`Part`); by a whole literal; and sizes found backwards. Assumes
+-- nothing.
 use mathlib.Core.Path.{_≡_, refl, ap, subst, sym, _∙_}
 use Prim.Native.Nat.{ℕ, _+_, _*_, _^_, _≤_, _<_}
-use native.Mathlib.Nat.{le-trans, le-of-eq, add-zero, mul-comm, mul-assoc, mul-left-comm, mul-le-mul-left, mul-le-mul-right}
+use native.Mathlib.Nat.{le-trans, le-of-eq, add-zero, mul-comm, mul-assoc, mul-left-comm, mul-le-mul-left}
+use native.Mathlib.Nat.{mul-le-mul-right}
 use native.Mathlib.Omega.{arith}
 use mathlib.Core.Bool.{Bool, true, false}
 use lib.Dec.{T, leb, leb→le, lit≤}
@@ -16,26 +18,31 @@ use Rattle.rounding.proofs.Unit.{unit-pos}
 use Rattle.rounding.proofs.Operands.{div-finite}
 use Rattle.rounding.proofs.Ops.{div-rounds}
 use Rattle.rounding.proofs.Compare.{val-size, mag-sum}
-use Rattle.rounding.proofs.Errors.{rounds-off, off-as, off-scale, off-once, off-sum, off-neg, off-times, off-cancel, off-product, off-size}
+use Rattle.rounding.proofs.Errors.{rounds-off, off-as, off-scale, off-once, off-sum, off-neg, off-times}
+use Rattle.rounding.proofs.Errors.{off-cancel, off-product, off-size}
 use Rattle.rounding.proofs.Sizes.{unit-52}
 
 -- ---- the rounding alone: j is c at most on the scale of x
-pub quotient-off : (S : ℕ) (x j : Float) (R c : ℕ) → T (fits binary64 x) → Number j → mag j ≤ c * S → Size (val x) (R * S) → Finite (x ⊘ j)
+pub quotient-off : (S : ℕ) (x j : Float) (R c : ℕ) → T (fits binary64 x) → Number j → mag j ≤ c * S
+    → Size (val x) (R * S) → Finite (x ⊘ j)
     → Off (unit * S) (val (x ⊘ j) ⊠ val j) (unit ⊙ val x) (R + c)
 quotient-off S x j R c f g l s k =
     let w = div-rounds x j f (g .held) (g .finite) k in
     rounds-off (unit * S) (R + c) w
-    (le-trans (w .forward (unit * (R * S)) (size-times unit (val x) (R * S) s)) (bounded unit S (mag j) (2 ^ 52) R c l unit-52))
+    (le-trans (w .forward (unit * (R * S)) (size-times unit (val x) (R * S) s))
+    (bounded unit S (mag j) (2 ^ 52) R c l unit-52))
   where
     bounded : (U S J H R c : ℕ) → J ≤ c * S → H ≤ U → U * (R * S) + J * H ≤ (R + c) * (U * S)
     bounded U S J H R c a b =
-        le-trans (wider (U * (R * S)) (J * H) (c * S * U) (le-trans (mul-le-mul-left J b) (mul-le-mul-right U a))) (le-of-eq (gather U S R c))
+        le-trans (wider (U * (R * S)) (J * H) (c * S * U) (le-trans (mul-le-mul-left J b) (mul-le-mul-right U a)))
+        (le-of-eq (gather U S R c))
       where
         gather : (U S R c : ℕ) → U * (R * S) + c * S * U ≡ (R + c) * (U * S)
         gather U S R c = omega arith
 
 -- ---- by a literal c
-module _ {x : Float} {R K : ℕ} {X : D} {β : ℕ} (y : Float) (c Q γ : ℕ) (a : On unit x R K X β) (e : val y ≡ signed false (c * unit)) (g : Number y) where
+module _ {x : Float} {R K : ℕ} {X : D} {β : ℕ} (y : Float) (c Q γ : ℕ) (a : On unit x R K X β)
+    (e : val y ≡ signed false (c * unit)) (g : Number y) where
   size-of : mag y ≡ c * unit
   size-of = sym (mag-sum y) ∙ ap (λ (z : D). z .p + z .n) e ∙ add-zero (c * unit)
 
@@ -51,13 +58,15 @@ module _ {x : Float} {R K : ℕ} {X : D} {β : ℕ} (y : Float) (c Q γ : ℕ) (
       regroup : (q x : D) (c U : ℕ) → Same (q ⊠ signed false (c * U) ⊟ x) (U ⊙ (c ⊙ q) ⊟ x)
       regroup q x c U = omega arith
 
-  pub on-div : T (leb 1 c) → T (leb (R + c) (2 ^ 53)) → T (leb (R + 1) (c * Q)) → T (leb (R + c + β) (c * γ)) → On unit (x ⊘ y) Q (c * K) X γ
+  pub on-div : T (leb 1 c) → T (leb (R + c) (2 ^ 53)) → T (leb (R + 1) (c * Q)) → T (leb (R + c + β) (c * γ))
+      → On unit (x ⊘ y) Q (c * K) X γ
   on-div p l m n =
       record {
         about = record { held = div-fits binary64 x y; off = off };
         size = λ k.
             size-divide c (val (x ⊘ y)) (Q * unit) (leb→le 1 c p)
-            (size-weaken (c ⊙ val (x ⊘ y)) ((R + 1) * unit) (c * (Q * unit)) (off-size R (times-back k) l (a .size (div-finite x y k)))
+            (size-weaken (c ⊙ val (x ⊘ y)) ((R + 1) * unit) (c * (Q * unit))
+            (off-size R (times-back k) l (a .size (div-finite x y k)))
             (le-trans (mul-le-mul-right unit (leb→le (R + 1) (c * Q) m)) (le-of-eq (mul-assoc c Q unit))));
       }
     where
@@ -70,11 +79,14 @@ module _ {x : Float} {R K : ℕ} {X : D} {β : ℕ} (y : Float) (c Q γ : ℕ) (
       off : Finite (x ⊘ y) → Off (c * K * unit) ((c * K) ⊙ val (x ⊘ y)) X γ
       off k =
           off-scale (c * K * unit) γ
-          (off-as ((c * K) ⊙ val (x ⊘ y)) X (off-sum (off-times K (times-back k)) (a .about .off (div-finite x y k))) (joined c K (val (x ⊘ y)) (val x) X))
-          (le-trans (mul-le-mul-right (K * unit) (leb→le (R + c + β) (c * γ) n)) (le-of-eq (regroup c γ (K * unit) ∙ ap (λ (z : ℕ). γ * z) (sym (mul-assoc c K unit)))))
+          (off-as ((c * K) ⊙ val (x ⊘ y)) X (off-sum (off-times K (times-back k)) (a .about .off (div-finite x y k)))
+          (joined c K (val (x ⊘ y)) (val x) X))
+          (le-trans (mul-le-mul-right (K * unit) (leb→le (R + c + β) (c * γ) n))
+          (le-of-eq (regroup c γ (K * unit) ∙ ap (λ (z : ℕ). γ * z) (sym (mul-assoc c K unit)))))
 
 -- ---- sizes found backwards: a quotient of size R has a dividend of (2 * R + 1) times the divisor's size at most
-pub dividend : (x j : Float) {R : ℕ} → T (fits binary64 x) → Number j → Sized unit (x ⊘ j) R → Sized (mag j) x (2 * R + 1)
+pub dividend : (x j : Float) {R : ℕ} → T (fits binary64 x) → Number j → Sized unit (x ⊘ j) R
+    → Sized (mag j) x (2 * R + 1)
 dividend x j {R} f g z =
     let w = div-rounds x j f (g .held) (g .finite) (z .finite) in
     let q = val (x ⊘ j) ⊠ val j in
@@ -83,24 +95,28 @@ dividend x j {R} f g z =
       held = f;
       finite = div-finite x j (z .finite);
       size = size-divide unit (val x) ((2 * R + 1) * mag j) unit-pos
-          (grown q (unit ⊙ val x) R unit (mag j) (w .err) (w .near) s (small (w .err) (2 ^ 53) (2 ^ 52) R unit (mag j) (lit≤ tt) unit-52 (w .backward (R * unit * mag j) s)));
+          (grown q (unit ⊙ val x) R unit (mag j) (w .err) (w .near) s
+          (small (w .err) (2 ^ 53) (2 ^ 52) R unit (mag j) (lit≤ tt) unit-52 (w .backward (R * unit * mag j) s)));
     }
   where
     small : (e P H R U J : ℕ) → 1 ≤ P → H ≤ U → e * P ≤ R * U * J + J * H → e ≤ R * U * J + U * J
     small e P H R U J p h b = omega (arith, mul-le-mul-left e p, mul-le-mul-left J h)
 
-    grown : (a b : D) (R U J e : ℕ) → Near a b e → Size a (R * U * J) → e ≤ R * U * J + U * J → Size b (U * ((2 * R + 1) * J))
+    grown : (a b : D) (R U J e : ℕ) → Near a b e → Size a (R * U * J) → e ≤ R * U * J + U * J
+        → Size b (U * ((2 * R + 1) * J))
     grown a b R U J e n s h = omega arith
 
 -- ---- with what the dividend was off
-pub quotient-about : {S : ℕ} {x : Float} {R K : ℕ} {X : D} {β : ℕ} (j : Float) (c : ℕ) → On S x R K X β → Number j → mag j ≤ c * S
+pub quotient-about : {S : ℕ} {x : Float} {R K : ℕ} {X : D} {β : ℕ} (j : Float) (c : ℕ) → On S x R K X β → Number j
+    → mag j ≤ c * S
     → Finite (x ⊘ j) → Off (K * (unit * S)) (K ⊙ (val (x ⊘ j) ⊠ val j)) (unit ⊙ X) (R + c + β)
 quotient-about {S} {x} {R} {K} {X} {β} j c a g l k =
     let f = div-finite x j k in
     let q = val (x ⊘ j) ⊠ val j in
     off-as (K ⊙ q) (unit ⊙ X)
     (off-sum (off-times K (quotient-off S x j R c (a .about .held) g l (a .size f) k))
-    (off-scale (K * (unit * S)) β (off-times unit (a .about .off f)) (le-of-eq (ap (λ (z : ℕ). β * z) (mul-left-comm unit K S)))))
+    (off-scale (K * (unit * S)) β (off-times unit (a .about .off f))
+    (le-of-eq (ap (λ (z : ℕ). β * z) (mul-left-comm unit K S)))))
     (joined K unit q (val x) X)
   where
     joined : (K U : ℕ) (q x X : D) → Same (K ⊙ q ⊞ U ⊙ (K ⊙ x) ⊟ (K ⊙ (U ⊙ x) ⊞ U ⊙ X)) (K ⊙ q ⊟ U ⊙ X)
@@ -114,7 +130,8 @@ quotient j a g k = record { off = off-once (quotient-about j 1 a g (le-of-eq (on
     once : (J : ℕ) → J ≡ 1 * J
     once J = omega arith
 
-pub part-sum : {j : Float} {q X : D} {β : ℕ} {r Y : D} {γ : ℕ} → Part j q X β → Part j r Y γ → Part j (q ⊞ r) (X ⊞ Y) (β + γ)
+pub part-sum : {j : Float} {q X : D} {β : ℕ} {r Y : D} {γ : ℕ} → Part j q X β → Part j r Y γ
+    → Part j (q ⊞ r) (X ⊞ Y) (β + γ)
 part-sum {j} {q} {X} {β} {r} {Y} {γ} a b =
     record { off = off-as ((q ⊞ r) ⊠ val j) (unit ⊙ (X ⊞ Y)) (off-sum (a .off) (b .off)) (joined q r X Y (val j) unit) }
   where
@@ -139,7 +156,9 @@ pub part-near : {j : Float} {q X : D} {β : ℕ} {γ : ℕ} (r : D) → Part j q
 part-near {j} {q} {X} {β} {γ} r a o =
     record {
       off = off-as (r ⊠ val j) (unit ⊙ X)
-          (off-sum (off-scale (unit * mag j) γ (off-product (val j) (mag j) (val-size j) o) (le-of-eq (ap (λ (z : ℕ). γ * z) (mul-comm (mag j) unit)))) (a .off))
+          (off-sum
+          (off-scale (unit * mag j) γ (off-product (val j) (mag j) (val-size j) o)
+          (le-of-eq (ap (λ (z : ℕ). γ * z) (mul-comm (mag j) unit)))) (a .off))
           (joined r q (val j) (unit ⊙ X));
     }
   where
@@ -153,14 +172,19 @@ val-signed j = refl
 -- a sum of quotients whose numerators cancel
 pub part-none : {j : Float} {q X : D} {β : ℕ} → Part j q X β → Same X nought → 0 < mag j → Off unit q nought β
 part-none {j} {q} {X} {β} a e Z =
-    off-cancel (mag j) Z (off-scale (mag j * unit) β (go (sign j) (mag j) (subst (λ (z : D). Off (unit * mag j) (q ⊠ z) (unit ⊙ X) β) (val-signed j) (a .off))) (le-of-eq (ap (λ (z : ℕ). β * z) (mul-comm unit (mag j)))))
+    off-cancel (mag j) Z
+    (off-scale (mag j * unit) β
+    (go (sign j) (mag j) (subst (λ (z : D). Off (unit * mag j) (q ⊠ z) (unit ⊙ X) β) (val-signed j) (a .off)))
+    (le-of-eq (ap (λ (z : ℕ). β * z) (mul-comm unit (mag j)))))
   where
     like : (q X : D) (U k : ℕ) → Same X nought → Same (q ⊠ signed false k ⊟ U ⊙ X) (k ⊙ q ⊟ k ⊙ nought)
     like q X U k h = omega (arith, ap (λ (z : ℕ). U * z) h)
 
-    unlike : (q X : D) (U k : ℕ) → Same X nought → Same (opposite (q ⊠ signed true k) ⊟ opposite (U ⊙ X)) (k ⊙ q ⊟ k ⊙ nought)
+    unlike : (q X : D) (U k : ℕ) → Same X nought
+        → Same (opposite (q ⊠ signed true k) ⊟ opposite (U ⊙ X)) (k ⊙ q ⊟ k ⊙ nought)
     unlike q X U k h = omega (arith, ap (λ (z : ℕ). U * z) h)
 
-    go : (s : Bool) (k : ℕ) → Off (unit * mag j) (q ⊠ signed s k) (unit ⊙ X) β → Off (unit * mag j) (k ⊙ q) (k ⊙ nought) β
+    go : (s : Bool) (k : ℕ) → Off (unit * mag j) (q ⊠ signed s k) (unit ⊙ X) β
+        → Off (unit * mag j) (k ⊙ q) (k ⊙ nought) β
     go true k o = off-as (k ⊙ q) (k ⊙ nought) (off-neg o) (unlike q X unit k e)
     go false k o = off-as (k ⊙ q) (k ⊙ nought) o (like q X unit k e)

@@ -10,7 +10,8 @@ use Rattle.rounding.specs.Value.{unit, val, Finite}
 use Rattle.rounding.specs.Bounds.{Off, Sized, About, On}
 use Rattle.rounding.proofs.Linear.{size-weaken}
 use Rattle.rounding.proofs.Unit.{unit-large}
-use Rattle.rounding.proofs.Errors.{off-none, off-as, off-scale, off-once, off-times, off-cancel, off-sym, off-size}
+use Rattle.rounding.proofs.Errors.{off-none, off-as, off-scale, off-once, off-times, off-cancel, off-sym}
+use Rattle.rounding.proofs.Errors.{off-size}
 
 pub unit-52 : 2 ^ 52 ≤ unit
 unit-52 = le-trans (lit≤ tt) unit-large
@@ -47,7 +48,10 @@ exact-size {R = R} o f h = off-size R (off-sym (about-off (o .about) f)) h (o .s
 pub on-most : {S : ℕ} {x : Float} {R K : ℕ} {X : D} {β : ℕ} (Q γ : ℕ) → On S x R K X β → R ≤ Q → β ≤ γ → On S x Q K X γ
 on-most {S} {x} {R} {K} Q γ a h k =
     record {
-      about = record { held = a .about .held; off = λ f. off-scale (K * S) γ (a .about .off f) (mul-le-mul-right (K * S) k) };
+      about = record {
+        held = a .about .held;
+        off = λ f. off-scale (K * S) γ (a .about .off f) (mul-le-mul-right (K * S) k);
+      };
       size = λ f. size-weaken (val x) (R * S) (Q * S) (a .size f) (mul-le-mul-right S h);
     }
 
@@ -57,11 +61,15 @@ pub on-within : {S : ℕ} {x : Float} {R K : ℕ} {X : D} {β : ℕ} (Q γ : ℕ
 on-within {R = R} {β = β} Q γ a h k = on-most Q γ a (leb→le R Q h) (leb→le β γ k)
 
 -- an equal K, an X of the same value
-pub on-is : {S : ℕ} {x : Float} {R K : ℕ} {X : D} {β : ℕ} (L : ℕ) (Y : D) → On S x R K X β → K ≡ L → Same X Y → On S x R L Y β
+pub on-is : {S : ℕ} {x : Float} {R K : ℕ} {X : D} {β : ℕ} (L : ℕ) (Y : D) → On S x R K X β → K ≡ L → Same X Y
+    → On S x R L Y β
 on-is {S} {x} {R} {K} {X} {β} L Y a k e =
     subst (λ (z : ℕ). On S x R z Y β) k
     (record {
-      about = record { held = a .about .held; off = λ f. off-as (K ⊙ val x) Y (a .about .off f) (other (K ⊙ val x) X Y e) };
+      about = record {
+        held = a .about .held;
+        off = λ f. off-as (K ⊙ val x) Y (a .about .off f) (other (K ⊙ val x) X Y e);
+      };
       size = a .size;
     })
   where
@@ -70,7 +78,8 @@ on-is {S} {x} {R} {K} {X} {β} L Y a k e =
 
 -- both K and X taken c times, and c times less
 pub on-times : {S : ℕ} {x : Float} {R K : ℕ} {X : D} {β : ℕ} (c : ℕ) → On S x R K X β → On S x R (c * K) (c ⊙ X) β
-on-times {S} {x} {R} {K} {X} {β} c a = record { about = record { held = a .about .held; off = λ f. again (a .about .off f) }; size = a .size }
+on-times {S} {x} {R} {K} {X} {β} c a =
+    record { about = record { held = a .about .held; off = λ f. again (a .about .off f) }; size = a .size }
   where
     regroup : (c K : ℕ) (a b : D) → Same (c ⊙ (K ⊙ a) ⊟ b) ((c * K) ⊙ a ⊟ b)
     regroup c K a b = omega arith
@@ -80,14 +89,17 @@ on-times {S} {x} {R} {K} {X} {β} c a = record { about = record { held = a .abou
 
     again : Off (K * S) (K ⊙ val x) X β → Off (c * K * S) ((c * K) ⊙ val x) (c ⊙ X) β
     again o =
-        off-scale (c * K * S) β (off-as ((c * K) ⊙ val x) (c ⊙ X) (off-times c o) (regroup c K (val x) (c ⊙ X))) (same c K S β)
+        off-scale (c * K * S) β (off-as ((c * K) ⊙ val x) (c ⊙ X) (off-times c o) (regroup c K (val x) (c ⊙ X)))
+        (same c K S β)
 
 pub on-cancel : {S : ℕ} {x : Float} {R : ℕ} {X : D} {β : ℕ} (c : ℕ) → 0 < c → On S x R c (c ⊙ X) β → On S x R 1 X β
 on-cancel {S} {x} {R} {X} {β} c Z a =
     record {
       about = record {
         held = a .about .held;
-        off = λ f. off-as (1 ⊙ val x) X (off-scale (1 * S) β (off-cancel c Z (a .about .off f)) (alone β S)) (once (val x) X);
+        off =
+            λ f. off-as (1 ⊙ val x) X (off-scale (1 * S) β (off-cancel c Z (a .about .off f)) (alone β S))
+            (once (val x) X);
       };
       size = a .size;
     }

@@ -48,7 +48,8 @@ module _ {S : ℕ} {x : Float} {K : ℕ} {X : D} {β : ℕ} {y : Float} {Y : D} 
       }
 
   -- with a size of the exact sum
-  pub on-sum-forth : (R : ℕ) → About S x K X β → About S y K Y γ → (Finite (x ⊕ y) → Size (val x ⊞ val y) (R * S)) → T (leb R (2 ^ 53))
+  pub on-sum-forth : (R : ℕ) → About S x K X β → About S y K Y γ → (Finite (x ⊕ y) → Size (val x ⊞ val y) (R * S))
+      → T (leb R (2 ^ 53))
       → On S (x ⊕ y) (R + 1) K (X ⊞ Y) (R + (β + γ))
   on-sum-forth R a b s h =
       record {

@@ -1,4 +1,5 @@
--- The exact acceleration after phase 2, from the recorded jerks or from jf itself, and when it is near 0. Assumes nothing.
+-- The exact acceleration after phase 2, from the recorded jerks or from jf itself, and when it is near 0. Assumes
+-- nothing.
 use mathlib.Core.Path.{_≡_, refl, sym, ap, _∙_, subst}
 use mathlib.Core.Logic.{_⊎_, inl, inr}
 use Prim.Native.Nat.{ℕ, _+_, _*_, _≤_, _<_}
@@ -29,7 +30,10 @@ product-same t x y e = subst (λ (z : D). Same (t ⊠ x) (t ⊠ z)) e refl
 
 -- a time that is not above 0 and not below it is 0
 no-time : (t : Float) → T (fits binary64 t) → Finite t → Below nought (val t) → T (not (lt #0 t)) → mag t ≡ 0
-no-time t f k a h = go (mag t) (subst (λ (z : D). Below z nought) (val-above t a) (subst (λ (z : D). Below (val t) z) val-0 (lt-not #0 t (number-0 .held) f (number-0 .finite) k h)))
+no-time t f k a h =
+    go (mag t)
+    (subst (λ (z : D). Below z nought) (val-above t a)
+    (subst (λ (z : D). Below (val t) z) val-0 (lt-not #0 t (number-0 .held) f (number-0 .finite) k h)))
   where
     go : (m : ℕ) → Below (signed false m) nought → m ≡ 0
     go m h = omega arith
@@ -38,7 +42,8 @@ none-of : (t x : D) → t .p + t .n ≡ 0 → Same (t ⊠ x) nought
 none-of t x e = omega (arith, ap (λ (y : ℕ). y * x .p) e, ap (λ (y : ℕ). y * x .n) e)
 
 -- t times the jerk recorded for x is t times x
-jerk-same : (t x j : Float) → T (fits binary64 t) → Finite t → Below nought (val t) → j ≡ jerkIn t x → Same (val t ⊠ val j) (val t ⊠ val x)
+jerk-same : (t x j : Float) → T (fits binary64 t) → Finite t → Below nought (val t) → j ≡ jerkIn t x
+    → Same (val t ⊠ val j) (val t ⊠ val x)
 jerk-same t x j f k a e = go (lt #0 t) e (no-time t f k a)
   where
     both : (a b : D) → Same a nought → Same b nought → Same a b
@@ -46,13 +51,19 @@ jerk-same t x j f k a e = go (lt #0 t) e (no-time t f k a)
 
     go : (b : Bool) → j ≡ cond b x #0 → (T (not b) → mag t ≡ 0) → Same (val t ⊠ val j) (val t ⊠ val x)
     go true e h = product-same (val t) (val j) (val x) (ap (λ (z : Float). val z) e)
-    go false e h = let z = mag-sum t ∙ h tt in both (val t ⊠ val j) (val t ⊠ val x) (none-of (val t) (val j) z) (none-of (val t) (val x) z)
+    go false e h =
+        let z = mag-sum t ∙ h tt in
+        both (val t ⊠ val j) (val t ⊠ val x) (none-of (val t) (val j) z) (none-of (val t) (val x) z)
 
 -- ---- the acceleration after phase 2
-module _ {t : ℕ → Float} {x : Times} (a : Accepted t x) {jf : Float} {j : ℕ → Float} (h : Jerks jf t j) (p0 v0 a0 : Float) where
+module _ {t : ℕ → Float} {x : Times} (a : Accepted t x) {jf : Float} {j : ℕ → Float} (h : Jerks jf t j)
+    (p0 v0 a0 : Float) where
   pub reached : Same (motion t j (state p0 v0 a0) 3 .a) (unit ⊙ val a0 ⊞ (val (t 0) ⊟ val (t 2)) ⊠ val jf)
   unfolding motion
-  reached = joined (unit ⊙ val a0) (val (t 0)) (val (t 1)) (val (t 2)) (val (j 0)) (val (j 1)) (val (j 2)) (val jf) (val (neg jf)) (val #0) (here 0 (lit≤ tt) jf (h .plus)) (here 1 (lit≤ tt) #0 (h .none)) (here 2 (lit≤ tt) (neg jf) (h .minus)) (neg-same jf) zero-none
+  reached =
+      joined (unit ⊙ val a0) (val (t 0)) (val (t 1)) (val (t 2)) (val (j 0)) (val (j 1)) (val (j 2)) (val jf)
+      (val (neg jf)) (val #0) (here 0 (lit≤ tt) jf (h .plus)) (here 1 (lit≤ tt) #0 (h .none))
+      (here 2 (lit≤ tt) (neg jf) (h .minus)) (neg-same jf) zero-none
     where
       here : (i : ℕ) → i < 7 → (y : Float) → j i ≡ jerkIn (t i) y → Same (val (t i) ⊠ val (j i)) (val (t i) ⊠ val y)
       here i l y e = jerk-same (t i) y (j i) (a .held i l) (a .finite i l) (a .above i l) e
@@ -60,8 +71,12 @@ module _ {t : ℕ → Float} {x : Times} (a : Accepted t x) {jf : Float} {j : �
       times : (t x y : D) → Same x y → Same (t ⊠ x) (t ⊠ y)
       times t x y h = omega (arith, ap (λ (z : ℕ). t .p * z) h, ap (λ (z : ℕ). t .n * z) h)
 
-      joined : (s t0 t1 t2 j0 j1 j2 y n z : D) → Same (t0 ⊠ j0) (t0 ⊠ y) → Same (t1 ⊠ j1) (t1 ⊠ z) → Same (t2 ⊠ j2) (t2 ⊠ n) → Same n (opposite y) → Same z nought → Same (s ⊞ t0 ⊠ j0 ⊞ t1 ⊠ j1 ⊞ t2 ⊠ j2) (s ⊞ (t0 ⊟ t2) ⊠ y)
-      joined s t0 t1 t2 j0 j1 j2 y n z a b c d e = sums s (t0 ⊠ j0) (t1 ⊠ j1) (t2 ⊠ j2) (t0 ⊠ y) (t1 ⊠ z) (t2 ⊠ n) (t1 ⊠ nought) (t2 ⊠ opposite y) ((t0 ⊟ t2) ⊠ y) a b c (times t1 z nought e) (times t2 n (opposite y) d) (nothing t1) (apart t0 t2 y)
+      joined : (s t0 t1 t2 j0 j1 j2 y n z : D) → Same (t0 ⊠ j0) (t0 ⊠ y) → Same (t1 ⊠ j1) (t1 ⊠ z)
+          → Same (t2 ⊠ j2) (t2 ⊠ n) → Same n (opposite y) → Same z nought
+          → Same (s ⊞ t0 ⊠ j0 ⊞ t1 ⊠ j1 ⊞ t2 ⊠ j2) (s ⊞ (t0 ⊟ t2) ⊠ y)
+      joined s t0 t1 t2 j0 j1 j2 y n z a b c d e =
+          sums s (t0 ⊠ j0) (t1 ⊠ j1) (t2 ⊠ j2) (t0 ⊠ y) (t1 ⊠ z) (t2 ⊠ n) (t1 ⊠ nought) (t2 ⊠ opposite y)
+          ((t0 ⊟ t2) ⊠ y) a b c (times t1 z nought e) (times t2 n (opposite y) d) (nothing t1) (apart t0 t2 y)
         where
           nothing : (t : D) → Same (t ⊠ nought) nought
           nothing t = omega arith
@@ -69,21 +84,25 @@ module _ {t : ℕ → Float} {x : Times} (a : Accepted t x) {jf : Float} {j : �
           apart : (t0 t2 y : D) → Same (t0 ⊠ y ⊞ t2 ⊠ opposite y) ((t0 ⊟ t2) ⊠ y)
           apart t0 t2 y = omega arith
 
-          sums : (s a b c a' b' c' b'' c'' r : D) → Same a a' → Same b b' → Same c c' → Same b' b'' → Same c' c'' → Same b'' nought → Same (a' ⊞ c'') r → Same (s ⊞ a ⊞ b ⊞ c) (s ⊞ r)
+          sums : (s a b c a' b' c' b'' c'' r : D) → Same a a' → Same b b' → Same c c' → Same b' b'' → Same c' c''
+              → Same b'' nought → Same (a' ⊞ c'') r → Same (s ⊞ a ⊞ b ⊞ c) (s ⊞ r)
           sums s a b c a' b' c' b'' c'' r h1 h2 h3 h4 h5 h6 h7 = omega arith
 
   -- the exact acceleration, from jf itself
   abbrev ends : D
   ends = unit ⊙ val a0 ⊞ (val (t 0) ⊟ val (t 2)) ⊠ val jf
 
-  pub replaced-of : {β : ℕ} → Off (unit * unit) ends nought β → T (leb β residual) → Replaced residual #0 (motion t j (state p0 v0 a0) 3 .a)
+  pub replaced-of : {β : ℕ} → Off (unit * unit) ends nought β → T (leb β residual)
+      → Replaced residual #0 (motion t j (state p0 v0 a0) 3 .a)
   replaced-of {β} o k =
       let m = motion t j (state p0 v0 a0) 3 .a in
       let w = off-within residual o k in
       record {
         held = number-0 .held;
         err = w .err;
-        near = subst (λ (z : D). Near (unit ⊙ z) m (w .err)) (sym val-0) (from-none m ends unit (w .err) reached (w .near));
+        near =
+            subst (λ (z : D). Near (unit ⊙ z) m (w .err)) (sym val-0)
+            (from-none m ends unit (w .err) reached (w .near));
         bound = w .bound;
       }
     where
@@ -101,7 +120,8 @@ module _ {t : ℕ → Float} {x : Times} (a : Accepted t x) {jf : Float} {j : �
       small : (i : ℕ) (l : i < 7) (y : Float) → j i ≡ y → Finite y × Size (val y) (64 * unit)
       small i l y e = subst (λ (z : Float). Finite z × Size (val z) (64 * unit)) e (h .finite i l, h .size i l)
 
-      go : (b c : Bool) → j 0 ≡ cond b jf #0 → j 2 ≡ cond c (neg jf) #0 → (T (not b) → mag (t 0) ≡ 0) → (T (not c) → mag (t 2) ≡ 0)
+      go : (b c : Bool) → j 0 ≡ cond b jf #0 → j 2 ≡ cond c (neg jf) #0 → (T (not b) → mag (t 0) ≡ 0)
+          → (T (not c) → mag (t 2) ≡ 0)
           → (Finite jf × (mag jf ≤ 64 * unit)) ⊎ ((mag (t 0) ≡ 0) × (mag (t 2) ≡ 0))
       go true c e f m n = let w = small 0 (lit≤ tt) jf e in inl (w .0, size-mag jf (64 * unit) (w .1))
       go false true e f m n =
@@ -134,8 +154,14 @@ module _ {t : ℕ → Float} {x : Times} (a : Accepted t x) {jf : Float} {j : �
           rest : (U : ℕ) (a y : D) → Same y nought → Same (U ⊙ a ⊟ U ⊙ nought) (U ⊙ a ⊞ y ⊟ nought)
           rest U a y h = omega arith
 
-      go : (Finite jf × (mag jf ≤ 64 * unit)) ⊎ ((mag (t 0) ≡ 0) × (mag (t 2) ≡ 0)) → Replaced residual #0 (motion t j (state p0 v0 a0) 3 .a)
+      go : (Finite jf × (mag jf ≤ 64 * unit)) ⊎ ((mag (t 0) ≡ 0) × (mag (t 2) ≡ 0))
+          → Replaced residual #0 (motion t j (state p0 v0 a0) 3 .a)
       go (inl w) =
-          replaced-of (off-scale (unit * unit) (64 * β) (off-as ends nought (p (w .0) .off) (turned ((val (t 0) ⊟ val (t 2)) ⊠ val jf) (val a0) unit)) (scaled β unit (mag jf) (w .1))) k
+          replaced-of
+          (off-scale (unit * unit) (64 * β)
+          (off-as ends nought (p (w .0) .off) (turned ((val (t 0) ⊟ val (t 2)) ⊠ val jf) (val a0) unit))
+          (scaled β unit (mag jf) (w .1))) k
       go (inr w) =
-          replaced-of (off-as ends nought (off-times unit (z (w .0) (w .1))) (gone unit (val a0) (val (t 0)) (val (t 2)) (val jf) (mag-sum (t 0) ∙ w .0) (mag-sum (t 2) ∙ w .1))) l
+          replaced-of
+          (off-as ends nought (off-times unit (z (w .0) (w .1)))
+          (gone unit (val a0) (val (t 0)) (val (t 2)) (val jf) (mag-sum (t 0) ∙ w .0) (mag-sum (t 2) ∙ w .1))) l

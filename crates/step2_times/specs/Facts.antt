@@ -1,4 +1,5 @@
--- What is said of the seven times of an attempt: how long the exact motion lasts, and how far the acceleration that `check` replaced by 0 is from 0. Definitions only.
+-- What is said of the seven times of an attempt: how long the exact motion lasts, and how far the acceleration that
+-- `check` replaced by 0 is from 0. Definitions only.
 use mathlib.Core.Path.{_≡_}
 use mathlib.Core.Bool.{cond}
 use Prim.Native.Nat.{ℕ, _*_, _^_, _≤_, _<_}
@@ -47,7 +48,8 @@ pub record Lasts (t : ℕ → Float) (tf : Float) : Type 0 where
 abbrev pub jerkIn : Float → Float → Float
 jerkIn t x = cond (lt #0 t) x #0
 
--- j are the jerks that are recorded with the times t and the jerk jf: + 0 - in phases 0 to 2, under both sign patterns. Each is 64 at most in size.
+-- j are the jerks that are recorded with the times t and the jerk jf: + 0 - in phases 0 to 2, under both sign patterns.
+-- Each is 64 at most in size.
 pub record Jerks (jf : Float) (t j : ℕ → Float) : Type 0 where
   pub plus : j 0 ≡ jerkIn (t 0) jf
   pub none : j 1 ≡ jerkIn (t 1) #0
@@ -62,4 +64,5 @@ residual = 4000
 -- What an attempt shows whose label replaces a[3].
 pub record Replaces (t : ℕ → Float) (tf a0 jf : Float) : Type 0 where
   pub lasts : Lasts t tf
-  pub replaced : (j : ℕ → Float) (p0 v0 : Float) → Jerks jf t j → Replaced residual #0 (motion t j (state p0 v0 a0) 3 .a)
+  pub replaced : (j : ℕ → Float) (p0 v0 : Float) → Jerks jf t j
+      → Replaced residual #0 (motion t j (state p0 v0 a0) 3 .a)
