@@ -1,18 +1,15 @@
--- An accepted move arrives.
+-- An accepted move arrives. Assumes nothing.
 -- `check` adds the seven phases up in f64s, rounding at every step, and under some labels it sets a[3] to 0. It says
--- yes where the numbers that it recorded
--- are the goal within its tolerances, and keep the limits within theirs. The theorem is about the motion that is really
--- made: from the recorded start, by the
--- recorded times and jerks, each as the exact number that its bits stand for, with no rounding and with no acceleration
--- set to 0.
+-- yes where the numbers that it recorded are the goal within its tolerances, and keep the limits within theirs. The
+-- theorem is about the motion that is really made: from the recorded start, by the recorded times and jerks, each as
+-- the exact number that its bits stand for, with no rounding and with no acceleration set to 0.
 -- For a start of at most 8 in size, a total time of at most 8 and jerks of at most 64 (`Within`), every recorded number
--- is near that motion's (`check-recorded`).
--- So the motion ends at the goal and keeps its limits, within `check`'s tolerances and the rounding errors
--- (`check-arrives-closely`), and so within the distances that are demanded (`check-arrives`).
+-- is near that motion's (`check-recorded`). So the motion ends at the goal and keeps its limits, within `check`'s
+-- tolerances and the rounding errors (`check-arrives-closely`), and so within the distances that are demanded
+-- (`check-arrives`).
 -- What setting a[3] to 0 adds is not known here: it is the residual r, and whoever chose the times says how large it is
--- (`Residual`). Where the label sets nothing, r is 0.
--- The limits are finite numbers; nothing is asked of jf but that it is an f64, and nothing of the goal. Assumes
--- nothing.
+-- (`Residual`). Where the label sets nothing, r is 0. The limits are finite numbers; nothing is asked of jf but that it
+-- is an f64, and nothing of the goal.
 use mathlib.Core.Path.{_≡_, sym, ap, subst}
 use mathlib.Core.Logic.{_⊎_, inl, inr}
 use mathlib.Core.Bool.{Bool, true, false, cond, _&&_}

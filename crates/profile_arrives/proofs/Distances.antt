@@ -1,5 +1,5 @@
--- Distances: a test of `check` on a recorded number, with the rounding error of that number, as a distance of the exact
--- one; and the wider distance from the narrower. Assumes nothing.
+-- A test of `check` on a recorded number as a distance of the exact one. Assumes nothing.
+-- With the rounding error of that number; and the wider distance from the narrower.
 use mathlib.Core.Path.{_≡_, sym, ap, _∙_}
 use mathlib.Core.Bool.{false}
 use Prim.Native.Nat.{ℕ, _+_, _*_, _^_, _≤_, _<_}

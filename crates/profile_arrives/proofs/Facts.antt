@@ -1,5 +1,5 @@
--- From a yes of `check` to exact numbers: all that it added up is finite, no time is negative, and each test at the end
--- as a bound. Assumes nothing.
+-- From a yes of `check` to exact numbers. Assumes nothing.
+-- All that it added up is finite, no time is negative, and each test at the end is a bound.
 use mathlib.Core.Path.{_≡_, refl, sym, ap, _∙_, subst}
 use mathlib.Core.Bool.{Bool, true, false, not, _&&_}
 use mathlib.Core.List.{List}

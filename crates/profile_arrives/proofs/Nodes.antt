@@ -1,5 +1,4 @@
--- The nodes of a run of seven phases: the exact number at a limit or at the goal, from the test of the recorded one.
--- Assumes nothing.
+-- The nodes of a run: the exact number at a limit or at the goal, from the test of its record. Assumes nothing.
 use mathlib.Core.Path.{_≡_, refl}
 use Prim.Native.Nat.{ℕ, _+_, _*_, _^_, _≤_}
 use native.Mathlib.Nat.{le-refl}

@@ -1,5 +1,5 @@
--- A run of `check`'s loop that says yes, backwards: it made every step, and each entry that it left is the step from
--- the entry before. Assumes nothing.
+-- A run of `check`'s loop that says yes, backwards. Assumes nothing.
+-- It made every step, and each entry that it left is the step from the entry before.
 use mathlib.Core.Path.{_≡_, refl, sym, ap, _∙_, subst}
 use mathlib.Core.Bool.{Bool, true, false, cond, true≢false}
 use mathlib.Core.Logic.{inl, inr}

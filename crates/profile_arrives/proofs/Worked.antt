@@ -1,5 +1,6 @@
--- The theorem's premises can be met: a move of seven phases of 1 second, jerk 1, from rest at 0 to rest at 8, under a
--- label that sets a[3] to 0. `check` says yes, and the theorem applies. Assumes nothing.
+-- The theorem's premises can be met. Assumes nothing.
+-- A move of seven phases of 1 second, jerk 1, from rest at 0 to rest at 8, under a label that sets a[3] to 0: `check`
+-- says yes, and the theorem applies.
 use mathlib.Core.Path.{_≡_, refl}
 use mathlib.Core.Bool.{true, false}
 use mathlib.Core.List.{List, [], _∷_}

@@ -1,5 +1,6 @@
--- What `check` leaves as it was, after a no as after a yes, and what a yes says, part by part, of the profile q that it
--- was handed and the profile q' that it left. Assumes nothing.
+-- What `check` leaves as it was, and what a yes says. Assumes nothing.
+-- The first after a no as after a yes; the second part by part, of the profile q that it was handed and the profile q'
+-- that it left.
 use mathlib.Core.Path.{_≡_, refl, sym, subst}
 use mathlib.Core.Bool.{Bool, true, false, cond, not, _&&_, _||_, true≢false}
 use mathlib.Core.List.{List}
@@ -125,69 +126,69 @@ module _ (m : Tests) (a-max a-min : Float) (b : Band) (t j : List Float) (n : No
 eight-of : (q : Profile) → Held q → Eight (nodesOf q)
 eight-of q h = record { eight-a = h .eight-a; eight-v = h .eight-v; eight-p = h .eight-p }
 
-module _ (signs : ControlSigns) (limits : ReachedLimits) (jf v-max v-min a-max a-min : Float) (q : Profile) (h : Held q)
-  where
-    pub check-carries : (set-limits : Bool)
-        → Carried q (checkOf signs limits set-limits jf v-max v-min a-max a-min q .profile)
-    unfolding checkOf
-    check-carries set-limits =
-        let sums = sumsOf (q .t) (q .«t_sum») in
-        let j = jerksOf signs (q .t) jf in
-        let nodes = run (phaseOf (testsOf limits) set-limits a-max a-min (bandOf v-max v-max v-min) (q .t) j) 7 0
-        (nodesOf q) in
-        let begun = phases-begin (testsOf limits) set-limits a-max a-min (bandOf v-max v-max v-min) (q .t) j (nodesOf q)
-        (eight-of q h) in
-        any-way (λ (z : Profile). Carried q z) (not (sums .ok) || refusedOf (testsOf limits) (q .t) (sums .left))
-        (nodes .ok)
-        (arrivedOf (nodes .left) (goalOf q) && keptOf (nodes .left) (bandOf v-max a-max a-min)
-        (bandOf v-max v-max v-min))
-        (profileOf (q .t) (sums .left) (q .j) (nodesOf q) (goalOf q) (labelsOf q))
-        (profileOf (q .t) (sums .left) j (nodes .left) (goalOf q) (labels limits (directionOf v-max) signs))
-        (profileOf (q .t) (sums .left) j (nodes .left) (goalOf q)
-        (labels (q .limits) (directionOf v-max) (q .«control_signs»)))
-        (record {
-          t-is = refl;
-          pf-is = refl;
-          vf-is = refl;
-          af-is = refl;
-          nodes = record { start = refl; eight = eight-of q h };
-        })
-        (record { t-is = refl; pf-is = refl; vf-is = refl; af-is = refl; nodes = begun })
-        (record { t-is = refl; pf-is = refl; vf-is = refl; af-is = refl; nodes = begun })
+module _ (signs : ControlSigns) (limits : ReachedLimits) (jf v-max v-min a-max a-min : Float) (q : Profile)
+    (h : Held q) where
+  pub check-carries : (set-limits : Bool)
+      → Carried q (checkOf signs limits set-limits jf v-max v-min a-max a-min q .profile)
+  unfolding checkOf
+  check-carries set-limits =
+      let sums = sumsOf (q .t) (q .«t_sum») in
+      let j = jerksOf signs (q .t) jf in
+      let nodes = run (phaseOf (testsOf limits) set-limits a-max a-min (bandOf v-max v-max v-min) (q .t) j) 7 0
+      (nodesOf q) in
+      let begun = phases-begin (testsOf limits) set-limits a-max a-min (bandOf v-max v-max v-min) (q .t) j (nodesOf q)
+      (eight-of q h) in
+      any-way (λ (z : Profile). Carried q z) (not (sums .ok) || refusedOf (testsOf limits) (q .t) (sums .left))
+      (nodes .ok)
+      (arrivedOf (nodes .left) (goalOf q) && keptOf (nodes .left) (bandOf v-max a-max a-min)
+      (bandOf v-max v-max v-min))
+      (profileOf (q .t) (sums .left) (q .j) (nodesOf q) (goalOf q) (labelsOf q))
+      (profileOf (q .t) (sums .left) j (nodes .left) (goalOf q) (labels limits (directionOf v-max) signs))
+      (profileOf (q .t) (sums .left) j (nodes .left) (goalOf q)
+      (labels (q .limits) (directionOf v-max) (q .«control_signs»)))
+      (record {
+        t-is = refl;
+        pf-is = refl;
+        vf-is = refl;
+        af-is = refl;
+        nodes = record { start = refl; eight = eight-of q h };
+      })
+      (record { t-is = refl; pf-is = refl; vf-is = refl; af-is = refl; nodes = begun })
+      (record { t-is = refl; pf-is = refl; vf-is = refl; af-is = refl; nodes = begun })
 
-    pub check-yes : checkOf signs limits false jf v-max v-min a-max a-min q .ok ≡ true
-        → Yes signs limits jf v-max v-min a-max a-min q
-        (checkOf signs limits false jf v-max v-min a-max a-min q .profile)
-    unfolding checkOf
-    check-yes said =
-        let sums = sumsOf (q .t) (q .«t_sum») in
-        let j = jerksOf signs (q .t) jf in
-        let nodes = run (phaseOf (testsOf limits) false a-max a-min (bandOf v-max v-max v-min) (q .t) j) 7 0
-        (nodesOf q) in
-        let w = last-way (not (sums .ok) || refusedOf (testsOf limits) (q .t) (sums .left)) (nodes .ok)
-        (arrivedOf (nodes .left) (goalOf q) && keptOf (nodes .left) (bandOf v-max a-max a-min)
-        (bandOf v-max v-max v-min))
-        (profileOf (q .t) (sums .left) (q .j) (nodesOf q) (goalOf q) (labelsOf q))
-        (profileOf (q .t) (sums .left) j (nodes .left) (goalOf q) (labels limits (directionOf v-max) signs))
-        (profileOf (q .t) (sums .left) j (nodes .left) (goalOf q)
-        (labels (q .limits) (directionOf v-max) (q .«control_signs»))) said in
-        let u = neither (sums .ok) (refusedOf (testsOf limits) (q .t) (sums .left)) (w .0) in
-        let e = both (arrivedOf (nodes .left) (goalOf q))
-        (keptOf (nodes .left) (bandOf v-max a-max a-min) (bandOf v-max v-max v-min)) (w .2) in
-        subst (λ (z : Profile). Yes signs limits jf v-max v-min a-max a-min q z) (sym (w .3))
-        (record {
-          carried = subst (λ (z : Profile). Carried q z) (w .3) (check-carries false);
-          j-is = refl;
-          limits-is = refl;
-          signs-is = refl;
-          step =
-              phases-step (testsOf limits) a-max a-min (bandOf v-max v-max v-min) (q .t) j (nodesOf q) (eight-of q h)
-              (w .1);
-          not-negative = times-yes (q .t) (q .«t_sum») (u .0);
-          not-refused = u .1;
-          arrived = e .0;
-          kept = e .1;
-        })
+  pub check-yes : checkOf signs limits false jf v-max v-min a-max a-min q .ok ≡ true
+      → Yes signs limits jf v-max v-min a-max a-min q
+      (checkOf signs limits false jf v-max v-min a-max a-min q .profile)
+  unfolding checkOf
+  check-yes said =
+      let sums = sumsOf (q .t) (q .«t_sum») in
+      let j = jerksOf signs (q .t) jf in
+      let nodes = run (phaseOf (testsOf limits) false a-max a-min (bandOf v-max v-max v-min) (q .t) j) 7 0
+      (nodesOf q) in
+      let w = last-way (not (sums .ok) || refusedOf (testsOf limits) (q .t) (sums .left)) (nodes .ok)
+      (arrivedOf (nodes .left) (goalOf q) && keptOf (nodes .left) (bandOf v-max a-max a-min)
+      (bandOf v-max v-max v-min))
+      (profileOf (q .t) (sums .left) (q .j) (nodesOf q) (goalOf q) (labelsOf q))
+      (profileOf (q .t) (sums .left) j (nodes .left) (goalOf q) (labels limits (directionOf v-max) signs))
+      (profileOf (q .t) (sums .left) j (nodes .left) (goalOf q)
+      (labels (q .limits) (directionOf v-max) (q .«control_signs»))) said in
+      let u = neither (sums .ok) (refusedOf (testsOf limits) (q .t) (sums .left)) (w .0) in
+      let e = both (arrivedOf (nodes .left) (goalOf q))
+      (keptOf (nodes .left) (bandOf v-max a-max a-min) (bandOf v-max v-max v-min)) (w .2) in
+      subst (λ (z : Profile). Yes signs limits jf v-max v-min a-max a-min q z) (sym (w .3))
+      (record {
+        carried = subst (λ (z : Profile). Carried q z) (w .3) (check-carries false);
+        j-is = refl;
+        limits-is = refl;
+        signs-is = refl;
+        step =
+            phases-step (testsOf limits) a-max a-min (bandOf v-max v-max v-min) (q .t) j (nodesOf q) (eight-of q h)
+            (w .1);
+        not-negative = times-yes (q .t) (q .«t_sum») (u .0);
+        not-refused = u .1;
+        arrived = e .0;
+        kept = e .1;
+      })
 
 -- what is carried over holds f64s still, and eight of them
 pub held-left : {q q' : Profile} → Carried q q' → Held q → Held q'

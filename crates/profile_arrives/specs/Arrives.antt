@@ -1,5 +1,5 @@
--- That an exact motion arrives and keeps its limits, by given distances; the distances of the demand, and those that
--- are proved. Definitions only.
+-- That an exact motion arrives and keeps its limits, by given distances. Definitions only.
+-- And the distances of the demand, and those that are proved.
 use mathlib.Core.Bool.{false}
 use Prim.Native.Nat.{ℕ, _+_, _*_, _^_}
 use lib.Ieee.{Float}

@@ -1,5 +1,5 @@
--- A profile as numbers with an index, the exact motion that its times and jerks stand for, and what is asked of it.
--- Definitions only.
+-- A profile as numbers with an index, and the exact motion that it stands for. Definitions only.
+-- And what is asked of a profile.
 use mathlib.Core.Path.{_≡_}
 use mathlib.Core.Bool.{cond, false}
 use Prim.Native.Nat.{ℕ, suc, _*_, _<_}

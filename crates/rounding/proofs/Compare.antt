@@ -1,5 +1,4 @@
--- What a comparison of finite f64s says of their values, and what any true comparison says of its operands. Assumes
--- nothing.
+-- What a comparison of finite f64s says of their values, and when it is finite. Assumes nothing.
 use mathlib.Core.Path.{_≡_, refl, sym, _∙_, subst}
 use mathlib.Core.Logic.{_⊎_, inl, inr}
 use Prim.Native.Nat.{ℕ, _+_, _*_, _≤_, _<_}

@@ -1,5 +1,5 @@
--- From the tests of `check` to exact numbers: a difference that is small in f64s, a number within a limit that was
--- widened in f64s, a quotient that is 0. Assumes nothing.
+-- From the tests of `check` to exact numbers. Assumes nothing.
+-- A difference that is small in f64s, a number within a limit that was widened in f64s, a quotient that is 0.
 use mathlib.Core.Path.{_≡_, refl, sym, ap, _∙_, subst}
 use Prim.Native.Nat.{ℕ, _+_, _-_, _*_, _^_, _≤_, _<_}
 use native.Mathlib.Nat.{le-trans, le-of-eq, mul-comm, mul-assoc, mul-le-mul-left, mul-le-mul-right}

@@ -1,5 +1,4 @@
--- Steps with exact numbers that the other files share: sums, multiples and products of numbers that are near. Assumes
--- nothing.
+-- Steps with exact numbers: sums, multiples and products of numbers that are near. Assumes nothing.
 use mathlib.Core.Path.{_≡_, ap, ap₂}
 use mathlib.Core.Logic.{_⊎_, inl, inr}
 use Prim.Native.Nat.{ℕ, _+_, _-_, _*_, _≤_, _<_}

@@ -1,6 +1,6 @@
--- The values of the literals of the port, in units, and that each is a finite f64. Nothing here expands the unit.
--- Assumes nothing.
--- A whole literal is its number of units; a fraction m / 2 ^ k is told by mag * 2 ^ k ≡ m * unit.
+-- The values of the literals of the port, in units; each is a finite f64. Assumes nothing.
+-- Nothing here expands the unit. A whole literal is its number of units; a fraction m / 2 ^ k is told by
+-- mag * 2 ^ k ≡ m * unit.
 use mathlib.Core.Path.{_≡_, refl, ap, _∙_}
 use Prim.Native.Nat.{ℕ, _*_, _^_}
 use native.Mathlib.Nat.{zero-mul, one-mul}

@@ -1,5 +1,5 @@
--- A finite result has finite operands, but for a divisor, which may be an infinity where the quotient is 0. Assumes
--- nothing.
+-- A finite result has finite operands. Assumes nothing.
+-- But for a divisor: it may be an infinity where the quotient is 0.
 use mathlib.Core.Path.{_≡_, refl, sym, ap, _∙_, subst}
 use mathlib.Core.Logic.{_⊎_, inl, inr}
 use Prim.Native.Nat.{ℕ, zero, suc, _*_, _/_, _<_}

@@ -1,6 +1,4 @@
--- One phase: the f64 step against the exact step from the same state, and the exact steps from two states that are
--- near.
--- Assumes nothing.
+-- One phase: the f64 step against the exact one, and exact steps from states that are near. Assumes nothing.
 use mathlib.Core.Path.{_≡_, refl, ap, _∙_, subst}
 use Prim.Native.Nat.{ℕ, _+_, _*_, _^_, _≤_}
 use native.Mathlib.Nat.{le-trans, le-of-eq, mul-assoc, one-mul}

@@ -1,5 +1,5 @@
--- Quotients: by any divisor j, multiplied through by j (`Part`); by a whole literal; and sizes found backwards. Assumes
--- nothing.
+-- Quotients by any divisor and by a whole literal, and sizes found backwards. Assumes nothing.
+-- By any divisor j an error is told multiplied through by j: `Part`.
 use mathlib.Core.Path.{_≡_, refl, ap, subst, sym, _∙_}
 use Prim.Native.Nat.{ℕ, _+_, _*_, _^_, _≤_, _<_}
 use native.Mathlib.Nat.{le-trans, le-of-eq, add-zero, mul-comm, mul-assoc, mul-left-comm, mul-le-mul-left}

@@ -1,5 +1,5 @@
--- One rounding: how far the result of `round` is from the fraction that it was handed, relative to the fraction and
--- relative to the result. Assumes nothing.
+-- One rounding: how far the result of `round` is from the fraction that it was handed. Assumes nothing.
+-- Relative to the fraction and relative to the result.
 use mathlib.Core.Path.{_≡_, refl, sym, ap, _∙_, subst}
 use mathlib.Core.Logic.{_⊎_, inl, inr}
 use Prim.Native.Nat.{ℕ, zero, suc, _+_, _-_, _*_, _/_, _%_, _^_, _≤_, _<_, compare, Ordering, Ordering·lt, Ordering·eq}

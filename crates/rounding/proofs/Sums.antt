@@ -1,5 +1,5 @@
--- A sum on a scale: its error with a size of the result, of the exact sum, or of both operands. A difference is a sum
--- with the opposite. Assumes nothing.
+-- A sum on a scale: its error with a size of the result, of the exact sum, or of both operands. Assumes nothing.
+-- A difference is a sum with the opposite.
 use Prim.Native.Nat.{ℕ, _+_, _*_, _^_}
 use native.Mathlib.Nat.{le-trans, le-of-eq, add-zero}
 use native.Mathlib.Omega.{arith}

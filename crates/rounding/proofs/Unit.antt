@@ -1,5 +1,5 @@
--- What is known of the unit 2 ^ 1074, and of a float's size in units: m * 2 ^ e is a whole number of them wherever an
--- f64 holds it. Assumes nothing.
+-- What is known of the unit 2 ^ 1074, and of a float's size in units. Assumes nothing.
+-- m * 2 ^ e is a whole number of them wherever an f64 holds it.
 use mathlib.Core.Path.{_≡_, refl, sym, ap, _∙_}
 use Prim.Native.Nat.{ℕ, zero, suc, _+_, _-_, _*_, _/_, _%_, _^_, _≤_, _<_, zero-le}
 use native.Mathlib.Nat.{le-trans, le-of-eq, le-of-lt, mul-right-comm, mul-le-mul-right, le-of-mul-le-mul-right}

@@ -1,5 +1,5 @@
--- A move that document 01 works through, by the exact motion: times 1 0 1 0 1 0 1 from rest at 0, jerks 1 0 -1 0 -1 0
--- 1, end at rest at 2, after 4 seconds. Assumes nothing.
+-- A move that document 01 works through, by the exact motion. Assumes nothing.
+-- Times 1 0 1 0 1 0 1 from rest at 0, jerks 1 0 -1 0 -1 0 1, end at rest at 2, after 4 seconds.
 use mathlib.Core.Path.{refl}
 use mathlib.Core.List.{[], _∷_}
 use Prim.Native.Nat.{ℕ, _*_}

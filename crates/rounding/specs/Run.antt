@@ -1,7 +1,5 @@
--- What is said of a run of seven phases in f64s: how far each recorded number is from the exact motion. Definitions
--- only.
--- All bounds are multiples of 2 ^ -53, for a run whose replaced accelerations are within r times 2 ^ -53 of the exact
--- ones.
+-- How far each recorded number of a run of seven phases in f64s is from the exact motion. Definitions only.
+-- All bounds are multiples of 2 ^ -53, for a run whose replaced accelerations are within r times 2 ^ -53 of the exact.
 use Prim.Native.Nat.{ℕ, suc, _+_, _*_, _^_, _≤_, _<_}
 use lib.Dec.{T}
 use lib.Ieee.{Float, binary64, fits}
@@ -29,8 +27,7 @@ pub record Recorded (r : ℕ) (n : Node) (m : Moving) : Type 0 where
   pub p : Off (perP * unit) (perP ⊙ val (n .p)) (m .p) (offP r)
 
 -- A run: node 0 is the start, of size 8 at most in each number; each later node is the step from the one before;
--- the times add up to 8 at most, and each jerk is 64 at most in size. Of the results only the last node is said to be
--- finite.
+-- the times add up to 8 at most, and each jerk is 64 at most in size. Only the last node is said to be finite.
 pub record Run (r : ℕ) (t j : ℕ → Float) (n : ℕ → Node) : Type 0 where
   pub small : r ≤ 2 ^ 40
   pub held-t : (i : ℕ) → i < 7 → T (fits binary64 (t i))

@@ -1,7 +1,6 @@
--- A finite f64 as a whole number of units of 2 ^ -1074, the smallest positive f64: every finite f64 is one. Definitions
--- only.
--- `val x` is the number x times 2 ^ 1074, and `mag x` its size. A NaN and an infinity are given 0,
--- so a law that speaks of `val` asks that its floats are finite.
+-- A finite f64 as a whole number of units of 2 ^ -1074, the smallest positive f64. Definitions only.
+-- Every finite f64 is one. `val x` is the number x times 2 ^ 1074, and `mag x` its size. A NaN and an infinity are
+-- given 0, so a law that speaks of `val` asks that its floats are finite.
 use Prim.Native.Nat.{ℕ, _*_, _/_, _^_}
 use mathlib.Core.Bool.{Bool, false}
 use lib.Dec.{T}

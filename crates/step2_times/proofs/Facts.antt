@@ -1,7 +1,6 @@
--- The eleven attempts of the five shapes: the seven times add up to tf, and the acceleration that the label replaces by
--- 0 is near 0. Assumes nothing.
--- The root r and the numbers h1, t1, t3, .. are any f64s: only the last line of formulas counts. h1 is asked to fit
--- where it is a numerator.
+-- The eleven attempts: the times add up to tf, and the acceleration replaced by 0 is near 0. Assumes nothing.
+-- The root r and the numbers h1, t1, t3, .. are any f64s: only the last line of formulas counts.
+-- h1 is asked to fit where it is a numerator.
 use Prim.Native.Nat.{ℕ}
 use mathlib.Core.Path.{_≡_, refl, sym, _∙_}
 use native.Mathlib.Omega.{arith}

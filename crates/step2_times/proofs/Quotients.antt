@@ -1,5 +1,5 @@
--- Five attempts that divide their numerators by the jerk one by one: the seven times add up to tf, since the numerators
--- cancel. Assumes nothing.
+-- Five attempts that divide numerators by the jerk: the seven times add up to tf. Assumes nothing.
+-- The numerators cancel.
 use Prim.Native.Nat.{ℕ, _*_}
 use native.Mathlib.Omega.{arith}
 use lib.Dec.{T}

@@ -1,5 +1,4 @@
--- The two ways in which phases 0 and 2 are made: the acceleration after phase 2 is within `residual` of 0. Assumes
--- nothing.
+-- The two ways to make phases 0 and 2: the acceleration after phase 2 is near 0. Assumes nothing.
 use mathlib.Core.Path.{_≡_, sym, _∙_, subst}
 use Prim.Native.Nat.{ℕ, _+_, _*_, _^_, _≤_, _<_}
 use native.Mathlib.Nat.{le-trans, le-of-eq, zero-mul, le-of-mul-le-mul-right}

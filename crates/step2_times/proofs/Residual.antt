@@ -1,5 +1,5 @@
--- The exact acceleration after phase 2, from the recorded jerks or from jf itself, and when it is near 0. Assumes
--- nothing.
+-- The exact acceleration after phase 2, from the recorded jerks or from jf itself. Assumes nothing.
+-- And when it is near 0.
 use mathlib.Core.Path.{_≡_, refl, sym, ap, _∙_, subst}
 use mathlib.Core.Logic.{_⊎_, inl, inr}
 use Prim.Native.Nat.{ℕ, _+_, _*_, _≤_, _<_}

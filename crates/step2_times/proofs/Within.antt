@@ -1,5 +1,4 @@
--- Seven accepted times: each is 8 at most, and an error of their sum is an error of how long the motion lasts. Assumes
--- nothing.
+-- Seven accepted times: each is 8 at most, and an error of their sum is one of the duration. Assumes nothing.
 use mathlib.Core.Path.{_≡_, refl, sym, subst}
 use Prim.Native.Nat.{ℕ, _+_, _*_, _≤_, _<_}
 use native.Mathlib.Omega.{arith}

@@ -1,5 +1,5 @@
--- What is said of the seven times of an attempt: how long the exact motion lasts, and how far the acceleration that
--- `check` replaced by 0 is from 0. Definitions only.
+-- What is said of the seven times of an attempt. Definitions only.
+-- How long the exact motion lasts, and how far the acceleration that `check` replaced by 0 is from 0.
 use mathlib.Core.Path.{_≡_}
 use mathlib.Core.Bool.{cond}
 use Prim.Native.Nat.{ℕ, _*_, _^_, _≤_, _<_}
