@@ -64,15 +64,17 @@ abs-fits (inf s) h = tt
 abs-fits (fin s zero e) h = h
 abs-fits (fin s (suc m) e) h = h
 
--- x - f, rounded, is below c in size
-close : (x f c : Float) → Number c → lt (absOf (x ⊖ f)) c ≡ true → Finite (x ⊖ f) × Size (val (x ⊖ f)) (mag c)
+-- x - f, rounded, is finite and c at most in size
+abbrev pub Close : Float → Float → Float → Type 0
+Close x f c = Finite (x ⊖ f) × Size (val (x ⊖ f)) (mag c)
+
+close : (x f c : Float) → Number c → lt (absOf (x ⊖ f)) c ≡ true → Close x f c
 close x f c g h =
     let d = x ⊖ f in
-    let l = lt-finite (absOf d) c (abs-sign d) (is-true h) in (
-      abs-finite d l,
-      lt-size (absOf d) d c (abs-fits d (sub-fits binary64 x f)) (g .held) l (g .finite) (abs-val d)
-          (is-true h),
-    )
+    let l = lt-finite (absOf d) c (abs-sign d) (is-true h) in
+    let s = lt-size (absOf d) d c (abs-fits d (sub-fits binary64 x f)) (g .held) l (g .finite) (abs-val d)
+    (is-true h) in
+    (abs-finite d l, s)
 
 -- ---- the jerks: ±jf or 0, and 0 where the time is not above 0
 pub jerk-is : (signs : ControlSigns) (t : List Float) (jf : Float) (i : ℕ) → i < 7
@@ -119,13 +121,13 @@ module _ {signs : ControlSigns} {limits : ReachedLimits} {jf v-max v-min a-max a
       let u = both p v (w .0) in
       (u .0, u .1, w .1)
 
-  pub end-p : Finite (node q' 7 .p ⊖ q' .pf) × Size (val (node q' 7 .p ⊖ q' .pf)) (mag #1e-8)
+  pub end-p : Close (node q' 7 .p) (q' .pf) #1e-8
   end-p = close (node q' 7 .p) (q' .pf) #1e-8 number-1e-8 (ends .0)
 
-  pub end-v : Finite (node q' 7 .v ⊖ q' .vf) × Size (val (node q' 7 .v ⊖ q' .vf)) (mag #1e-8)
+  pub end-v : Close (node q' 7 .v) (q' .vf) #1e-8
   end-v = close (node q' 7 .v) (q' .vf) #1e-8 number-1e-8 (ends .1)
 
-  pub end-a : Finite (node q' 7 .a ⊖ q' .af) × Size (val (node q' 7 .a ⊖ q' .af)) (mag #1e-10)
+  pub end-a : Close (node q' 7 .a) (q' .af) #1e-10
   end-a = close (node q' 7 .a) (q' .af) #1e-10 number-1e-10 (ends .2)
 
   -- ---- all is finite: the times, the jerks and the recorded numbers before the end; and the end
@@ -138,8 +140,7 @@ module _ {signs : ControlSigns} {limits : ReachedLimits} {jf v-max v-min a-max a
   end-finite = (
     sub-finite (node q' 7 .a) (q' .af) (end-a .0) .0,
     sub-finite (node q' 7 .v) (q' .vf) (end-v .0) .0,
-    sub-finite
-        (node q' 7 .p) (q' .pf) (end-p .0) .0,
+    sub-finite (node q' 7 .p) (q' .pf) (end-p .0) .0,
   )
 
   pub held-jerk : T (fits binary64 jf) → (i : ℕ) → i < 7 → T (fits binary64 (jerk q' i))

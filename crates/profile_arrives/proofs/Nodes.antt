@@ -5,18 +5,19 @@ use native.Mathlib.Nat.{le-refl}
 use native.Mathlib.Omega.{arith}
 use lib.Dec.{T, leb, lit≤}
 use lib.Ieee.{Float, binary64, fits}
-use Rattle.float.specs.Ops.{_⊖_, #1e-8, #1e-10, #1e-12}
-use Rattle.rounding.specs.Exact.{D, Size, _⊙_}
-use Rattle.rounding.specs.Value.{unit, mag, val, Finite, Number}
+use Rattle.float.specs.Ops.{#1e-8, #1e-10, #1e-12}
+use Rattle.rounding.specs.Exact.{D, _⊙_}
+use Rattle.rounding.specs.Value.{unit, mag, val, Number}
 use Rattle.rounding.specs.Bounds.{Off, Sized}
 use Rattle.rounding.specs.Motion.{Moving, motion, perA, perV, perP}
 use Rattle.rounding.specs.Step.{Node, from}
-use Rattle.rounding.specs.Run.{offA, offV, offP, Run}
+use Rattle.rounding.specs.Run.{offA, offV, Recorded, Run}
 use Rattle.rounding.proofs.Literals.{val-1e-12, number-1e-12}
 use Rattle.rounding.proofs.Limits.{limit-above, limit-below}
-use Rattle.rounding.proofs.Run.{recorded, sized-a, sized-v, sized-p}
+use Rattle.rounding.proofs.Phase.{Sizes}
+use Rattle.rounding.proofs.Run.{recorded, recorded-sizes}
 use Rattle.profile_arrives.specs.Arrives.{part, At, Between, proved}
-use Rattle.profile_arrives.proofs.Facts.{Inside}
+use Rattle.profile_arrives.proofs.Facts.{Close, Inside}
 use Rattle.profile_arrives.proofs.Distances.{fine-1e-8, fine-1e-10, fine-1e-12, at-most-one, lands, not-over}
 use Rattle.profile_arrives.proofs.Distances.{not-under}
 
@@ -41,9 +42,17 @@ module _ (K : ℕ) {x : Float} {X : D} {c R : ℕ} (C : ℕ) (o : Off (K * unit)
             small (z .size) few (h .1));
       }
 
--- ---- the nodes of a run
 fits-in : (c d e C : ℕ) → d + e ≡ C → c + d + e ≤ c + C
 fits-in c d e C h = omega arith
+
+-- ---- one recorded number at the goal, within the tolerance e of 1 / q
+landed : (K : ℕ) {x : Float} {X : D} {c R : ℕ} (e : Float) (q : ℕ) → Off (K * unit) (K ⊙ val x) X c → Sized unit x R
+    → mag e * (q * 2 ^ 53) ≤ (2 ^ 53 + 1) * unit → T (leb 2 q) → (f : Float) → T (fits binary64 f) → Close x f e
+    → At (part q (c + 2)) K X f
+landed K {x} {X} {c} e q o z m l f g h =
+    lands K x X c o f (mag e) q (c + 2) (z .held) g (h .0) (h .1) m l (fits-in c 1 1 2 refl)
+
+-- ---- the nodes of a run
 
 module _ {r : ℕ} {t j : ℕ → Float} {n : ℕ → Node} (z : Run r t j n) where
   abbrev state-at : ℕ → Moving
@@ -52,32 +61,28 @@ module _ {r : ℕ} {t j : ℕ → Float} {n : ℕ → Node} (z : Run r t j n) wh
   pub v-between : (i : ℕ) → i ≤ 7 → (low upp : Float) → Number low → Number upp → Inside low (n i .v) upp
       → Between (proved r .velocity-limit) perV low (state-at i .v) upp
   v-between i l =
-      between perV (offV r + 4171) (recorded z i l .v) (sized-v z i l) tt (fits-in (offV r) 4170 1 4171 refl)
+      between perV (offV r + 4171) (recorded z i l .v) (recorded-sizes z i l .of-v) tt
+      (fits-in (offV r) 4170 1 4171 refl)
 
   pub a-between : (i : ℕ) → i ≤ 7 → (low upp : Float) → Number low → Number upp → Inside low (n i .a) upp
       → Between (proved r .acceleration-limit) perA low (state-at i .a) upp
-  a-between i l = between perA (offA r + 523) (recorded z i l .a) (sized-a z i l) tt (fits-in (offA r) 522 1 523 refl)
+  a-between i l =
+      between perA (offA r + 523) (recorded z i l .a) (recorded-sizes z i l .of-a) tt
+      (fits-in (offA r) 522 1 523 refl)
 
-  end : 7 ≤ 7
-  end = le-refl 7
+  -- at the end
+  last : Recorded r (n 7) (state-at 7)
+  last = recorded z 7 (le-refl 7)
 
-  pub at-p : (f : Float) → T (fits binary64 f) → Finite (n 7 .p ⊖ f) × Size (val (n 7 .p ⊖ f)) (mag #1e-8)
-      → At (proved r .position) perP (state-at 7 .p) f
-  at-p f g h =
-      lands perP (n 7 .p) (state-at 7 .p) (offP r) (recorded z 7 end .p) f (mag #1e-8) 100_000_000 (offP r + 2)
-      (sized-p z 7 end .held) g
-      (h .0) (h .1) fine-1e-8 tt (fits-in (offP r) 1 1 2 refl)
+  size : Sizes (n 7)
+  size = recorded-sizes z 7 (le-refl 7)
 
-  pub at-v : (f : Float) → T (fits binary64 f) → Finite (n 7 .v ⊖ f) × Size (val (n 7 .v ⊖ f)) (mag #1e-8)
-      → At (proved r .velocity) perV (state-at 7 .v) f
-  at-v f g h =
-      lands perV (n 7 .v) (state-at 7 .v) (offV r) (recorded z 7 end .v) f (mag #1e-8) 100_000_000 (offV r + 2)
-      (sized-v z 7 end .held) g
-      (h .0) (h .1) fine-1e-8 tt (fits-in (offV r) 1 1 2 refl)
+  pub at-p : (f : Float) → T (fits binary64 f) → Close (n 7 .p) f #1e-8 → At (proved r .position) perP (state-at 7 .p) f
+  at-p = landed perP #1e-8 100_000_000 (last .p) (size .of-p) fine-1e-8 tt
 
-  pub at-a : (f : Float) → T (fits binary64 f) → Finite (n 7 .a ⊖ f) × Size (val (n 7 .a ⊖ f)) (mag #1e-10)
+  pub at-v : (f : Float) → T (fits binary64 f) → Close (n 7 .v) f #1e-8 → At (proved r .velocity) perV (state-at 7 .v) f
+  at-v = landed perV #1e-8 100_000_000 (last .v) (size .of-v) fine-1e-8 tt
+
+  pub at-a : (f : Float) → T (fits binary64 f) → Close (n 7 .a) f #1e-10
       → At (proved r .acceleration) perA (state-at 7 .a) f
-  at-a f g h =
-      lands perA (n 7 .a) (state-at 7 .a) (offA r) (recorded z 7 end .a) f (mag #1e-10) 10_000_000_000 (offA r + 2)
-      (sized-a z 7 end .held) g
-      (h .0) (h .1) fine-1e-10 tt (fits-in (offA r) 1 1 2 refl)
+  at-a = landed perA #1e-10 10_000_000_000 (last .a) (size .of-a) fine-1e-10 tt

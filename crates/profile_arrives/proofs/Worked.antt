@@ -21,7 +21,7 @@ use Rattle.profile.specs.Run.{run}
 use Rattle.profile.specs.Times.{sumStep, sumsOf, refusedOf}
 use Rattle.profile.specs.Limit.{bandOf}
 use Rattle.profile.specs.Phase.{replacedOf, zeroInsideOf, nodeOf, phaseOf}
-use Rattle.profile.specs.Check.{arrivedOf, keptOf, checkOf}
+use Rattle.profile.specs.Check.{profileOf, labels, arrivedOf, keptOf, checkOf}
 use Rattle.rounding.specs.Exact.{Size}
 use Rattle.rounding.specs.Value.{unit, mag, sign, val, Number}
 use Rattle.rounding.specs.Motion.{motion, lasts}
@@ -38,20 +38,8 @@ seven = #1 ∷ #1 ∷ #1 ∷ #1 ∷ #1 ∷ #1 ∷ #1 ∷ []
 
 abbrev asked : Profile
 asked =
-    record {
-      t = seven;
-      «t_sum» = zeros;
-      j = zeros;
-      a = #0 ∷ zeros;
-      v = #0 ∷ zeros;
-      p = #0 ∷ zeros;
-      pf = #8;
-      vf = #0;
-      af = #0;
-      limits = None;
-      direction = UP;
-      «control_signs» = UDDU;
-    }
+    profileOf seven zeros zeros (record { a = #0 ∷ zeros; v = #0 ∷ zeros; p = #0 ∷ zeros })
+    (record { pf = #8; vf = #0; af = #0 }) (labels None UP UDDU)
 
 abbrev left : Profile
 left = reply UDDU Acc0Acc1Vel #1 #2 (neg #2) #1 (neg #1) asked

@@ -92,30 +92,29 @@ module _ (s : Bool) (m : ℕ) (e : ℤ) (t : Bool) (n : ℕ) (d : ℤ) (f : T (f
       level-same (m * up e * down d) (n * up d * down e) (down e * down d) (mag (fin s m e)) (mag (fin t n d)) unit C
       unit-pos p q s t h
 
--- `lt`, `le` and `eq` of finite floats, true and false
-pub lt-less : (x y : Float) → T (fits binary64 x) → T (fits binary64 y) → Finite x → Finite y → T (lt x y)
+-- what holds of two finite floats that fit
+by-finite : (P : Float → Float → Type 0)
+    → ((s : Bool) (m : ℕ) (e : ℤ) (t : Bool) (n : ℕ) (d : ℤ)
+    → T (fits binary64 (fin s m e)) → T (fits binary64 (fin t n d)) → P (fin s m e) (fin t n d))
+    → (x y : Float) → T (fits binary64 x) → T (fits binary64 y) → Finite x → Finite y → P x y
+by-finite P h nan y f g k l = absurd k
+by-finite P h (inf s) y f g k l = absurd k
+by-finite P h (fin s m e) nan f g k l = absurd l
+by-finite P h (fin s m e) (inf t) f g k l = absurd l
+by-finite P h (fin s m e) (fin t n d) f g k l = h s m e t n d f g
+
+-- `lt`, `le` and `eq` of finite floats
+lt-less : (x y : Float) → T (fits binary64 x) → T (fits binary64 y) → Finite x → Finite y → T (lt x y)
     → Less (val x) (val y)
-lt-less nan y f g k l h = absurd k
-lt-less (inf s) y f g k l h = absurd k
-lt-less (fin s m e) nan f g k l h = absurd l
-lt-less (fin s m e) (inf t) f g k l h = absurd l
-lt-less (fin s m e) (fin t n d) f g k l h = fin-less s m e t n d f g h
+lt-less = by-finite (λ (x y : Float). T (lt x y) → Less (val x) (val y)) fin-less
 
 pub lt-not : (x y : Float) → T (fits binary64 x) → T (fits binary64 y) → Finite x → Finite y → T (not (lt x y))
     → Below (val y) (val x)
-lt-not nan y f g k l h = absurd k
-lt-not (inf s) y f g k l h = absurd k
-lt-not (fin s m e) nan f g k l h = absurd l
-lt-not (fin s m e) (inf t) f g k l h = absurd l
-lt-not (fin s m e) (fin t n d) f g k l h = fin-not s m e t n d f g h
+lt-not = by-finite (λ (x y : Float). T (not (lt x y)) → Below (val y) (val x)) fin-not
 
-pub eq-same : (x y : Float) → T (fits binary64 x) → T (fits binary64 y) → Finite x → Finite y → T (eq x y)
+eq-same : (x y : Float) → T (fits binary64 x) → T (fits binary64 y) → Finite x → Finite y → T (eq x y)
     → Same (val x) (val y)
-eq-same nan y f g k l h = absurd k
-eq-same (inf s) y f g k l h = absurd k
-eq-same (fin s m e) nan f g k l h = absurd l
-eq-same (fin s m e) (inf t) f g k l h = absurd l
-eq-same (fin s m e) (fin t n d) f g k l h = fin-same s m e t n d f g h
+eq-same = by-finite (λ (x y : Float). T (eq x y) → Same (val x) (val y)) fin-same
 
 pub le-below : (x y : Float) → T (fits binary64 x) → T (fits binary64 y) → Finite x → Finite y → T (le x y)
     → Below (val x) (val y)

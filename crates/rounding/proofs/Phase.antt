@@ -147,13 +147,16 @@ near-at K L r b t x y z e k q h =
     (subst (λ (c : D). Near (K ⊙ r) (K ⊙ b ⊞ t ⊠ (c ⊞ z)) e) q h)
 
 -- ---- the three results of `integrate`. e times 2 ^ 53 is bounded, in the units of `Moving`
--- the sizes from which a step begins
-pub record Steady (t j : Float) (n : Node) : Type 0 where
-  pub of-t : Sized unit t 8
-  pub of-j : Sized unit j 64
+-- the sizes of what is recorded, and those from which a step begins
+pub record Sizes (n : Node) : Type 0 where
   pub of-a : Sized unit (n .a) 521
   pub of-v : Sized unit (n .v) 4169
   pub of-p : Sized unit (n .p) 33353
+
+pub record Steady (t j : Float) (n : Node) : Type 0 where
+  pub of-t : Sized unit t 8
+  pub of-j : Sized unit j 64
+  pub of-n : Sizes n
 
 module _ (t j : Float) (n : Node) (z : Steady t j n) where
   pub step-a : Finite (stepOf t j n .a)
@@ -161,7 +164,7 @@ module _ (t j : Float) (n : Node) (z : Steady t j n) where
       × (e * 2 ^ 53 ≤ 1547 * (unit * unit))
   unfolding integrateOf
   step-a h =
-      let w = step-near (n .a) t 521 (on (z .of-j)) (z .of-a) (z .of-t) h tt tt in (
+      let w = step-near (n .a) t 521 (on (z .of-j)) (z .of-n .of-a) (z .of-t) h tt tt in (
         w .0,
         subst (λ (c : ℕ). Near (c ⊙ val (n .a ⊕ t ⊗ j)) (c ⊙ val (n .a) ⊞ val t ⊠ val j) (w .0)) (one-mul unit) (w .1),
         le-trans (w .2) (tidy unit (mag t)),
@@ -180,8 +183,8 @@ module _ (t j : Float) (n : Node) (z : Steady t j n) where
   unfolding integrateOf
   step-v h =
       let half = on-div #2 2 257 514 product val-2 number-2 tt tt tt tt in
-      let slope = on-add (on-whole (2 * unit) (z .of-a)) half tt in
-      let w = step-near (n .v) t 4169 slope (z .of-v) (z .of-t) h tt tt in (
+      let slope = on-add (on-whole (2 * unit) (z .of-n .of-a)) half tt in
+      let w = step-near (n .v) t 4169 slope (z .of-n .of-v) (z .of-t) h tt tt in (
         w .0,
         near-at (2 * unit * unit) perV (val (stepOf t j n .v)) (val (n .v)) (val t) ((2 * unit) ⊙ val (n .a))
             (2 ⊙ (perA ⊙ val (n .a))) (val t ⊠ val j) (w .0) (mul-assoc 2 unit unit) (times-times 2 unit (val (n .a)))
@@ -199,12 +202,12 @@ module _ (t j : Float) (n : Node) (z : Steady t j n) where
   unfolding integrateOf
   step-p h =
       let sixth = on-div #6 6 86 172 product val-6 number-6 tt tt tt tt in
-      let half = on-div #2 2 261 262 (on (z .of-a)) val-2 number-2 tt tt tt tt in
+      let half = on-div #2 2 261 262 (on (z .of-n .of-a)) val-2 number-2 tt tt tt tt in
       let thrice = on-is (6 * unit) (3 ⊙ (perA ⊙ val (n .a))) (on-times (3 * unit) half) (sixfold unit)
       (refl-of (times-times 3 unit (val (n .a)))) in
       let lift = on-mul (on (z .of-t)) (on-add thrice sixth tt) unit-52 tt tt in
-      let slope = on-add (on-whole (1 * (6 * unit) * unit) (z .of-v)) lift tt in
-      let w = step-near (n .p) t 33353 slope (z .of-p) (z .of-t) h tt tt in (
+      let slope = on-add (on-whole (1 * (6 * unit) * unit) (z .of-n .of-v)) lift tt in
+      let w = step-near (n .p) t 33353 slope (z .of-n .of-p) (z .of-t) h tt tt in (
         w .0,
         near-at (1 * (6 * unit) * unit * unit) perP (val (stepOf t j n .p)) (val (n .p)) (val t)
             ((1 * (6 * unit) * unit) ⊙ val (n .v)) (3 ⊙ (perV ⊙ val (n .v)))

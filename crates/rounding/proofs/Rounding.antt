@@ -236,25 +236,23 @@ close-whole H n d g N D q w =
 
 -- ---- with a sign
 pub close-signed : (s : Bool) (G N l : ℕ) → Close (2 ^ 52) G N l → Rounds (signed s G) (signed s N) l
-close-signed false G N l c =
+close-signed s G N l c =
     record {
       err = c .err;
-      near = omega arith;
-      forward = λ M h. tail (c .err * 2 ^ 53) N M l (c .forward) (h .over);
-      backward = λ M h. tail (c .err * 2 ^ 53) G M l (c .backward) (h .over);
+      near = near s G N (c .err) (c .over) (c .under);
+      forward = λ M h. tail (c .err * 2 ^ 53) N M l (c .forward) (unsigned s N M h);
+      backward = λ M h. tail (c .err * 2 ^ 53) G M l (c .backward) (unsigned s G M h);
     }
   where
-    tail : (e N M l : ℕ) → e ≤ N + l → N ≤ 0 + M → e ≤ M + l
-    tail e N M l a b = omega arith
-close-signed true G N l c =
-    record {
-      err = c .err;
-      near = omega arith;
-      forward = λ M h. tail (c .err * 2 ^ 53) N M l (c .forward) (h .under);
-      backward = λ M h. tail (c .err * 2 ^ 53) G M l (c .backward) (h .under);
-    }
-  where
-    tail : (e N M l : ℕ) → e ≤ N + l → N ≤ 0 + M → e ≤ M + l
+    near : (s : Bool) (G N e : ℕ) → G ≤ N + e → N ≤ G + e → Near (signed s G) (signed s N) e
+    near false G N e a b = omega arith
+    near true G N e a b = omega arith
+
+    unsigned : (s : Bool) (N M : ℕ) → Size (signed s N) M → N ≤ M
+    unsigned false N M h = omega arith
+    unsigned true N M h = omega arith
+
+    tail : (e N M l : ℕ) → e ≤ N + l → N ≤ M → e ≤ M + l
     tail e N M l a b = omega arith
 
 pub rounds-same : (r v r' v' : D) (l : ℕ) → Same r r' → Same v v' → Rounds r v l → Rounds r' v' l

@@ -26,7 +26,8 @@ use Rattle.rounding.proofs.Unit.{unit-pos}
 use Rattle.rounding.proofs.Compare.{val-size}
 use Rattle.rounding.proofs.Limits.{val-above}
 use Rattle.rounding.proofs.Errors.{off-size}
-use Rattle.rounding.proofs.Phase.{AllFinite, step-finite, Steady, step-a, step-v, step-p, Beside, phase-near}
+use Rattle.rounding.proofs.Phase.{AllFinite, step-finite, Sizes, Steady, step-a, step-v, step-p, Beside}
+use Rattle.rounding.proofs.Phase.{phase-near}
 
 -- ---- what is carried from node to node
 -- the float x is recorded for the exact X, of size s at most, K times as large; 2 ^ 53 times its error is b at most
@@ -188,13 +189,17 @@ more-p U P T τ i α ν a v p n l ba bv bp bn =
 
 -- ---- at a node: the errors at their largest, and the sizes of the recorded numbers
 -- K is not 0, the exact number is S at most, and its error one at most
-kept-size : {K : ℕ} {x : Float} {X : D} {b s : ℕ} (S c : ℕ) → Kept K x X b s → 0 < K → Off (K * unit) (K ⊙ val x) X c
-    → c ≤ 2 ^ 53 → s ≤ S * (K * unit)
-    → Size (val x) ((S + 1) * unit)
-kept-size {K} {x} {X} {b} {s} S c k Z o l h =
-    size-divide K (val x) ((S + 1) * unit) Z
-    (subst (λ (z : ℕ). Size (K ⊙ val x) z) (mul-left-comm (S + 1) K unit)
-    (off-size S o (le→leb c (2 ^ 53) l) (size-weaken X s (S * (K * unit)) (k .size) h)))
+kept-size : {K : ℕ} {x : Float} {X : D} {b s : ℕ} (S c : ℕ) → Kept K x X b s → Finite x → 0 < K
+    → Off (K * unit) (K ⊙ val x) X c → c ≤ 2 ^ 53 → s ≤ S * (K * unit) → Sized unit x (S + 1)
+kept-size {K} {x} {X} {b} {s} S c k f Z o l h =
+    record {
+      held = k .held;
+      finite = f;
+      size =
+          size-divide K (val x) ((S + 1) * unit) Z
+          (subst (λ (z : ℕ). Size (K ⊙ val x) z) (mul-left-comm (S + 1) K unit)
+          (off-size S o (le→leb c (2 ^ 53) l) (size-weaken X s (S * (K * unit)) (k .size) h)));
+    }
 
 module _ (r i T : ℕ) (s : Node) (m : Moving) (R : r ≤ 2 ^ 40) (I : i ≤ 7) (E : T ≤ 8 * unit) (k : Track r i T s m) where
   few : (r : ℕ) → r ≤ 2 ^ 40 → (offA r ≤ 2 ^ 53) × (offV r ≤ 2 ^ 53) × (offP r ≤ 2 ^ 53)
@@ -226,27 +231,27 @@ module _ (r i T : ℕ) (s : Node) (m : Moving) (R : r ≤ 2 ^ 40) (I : i ≤ 7) 
         };
       }
 
-  small-a : Size (val (s .a)) (521 * unit)
-  small-a = kept-size 520 (offA r) (k .a) unit-pos (worst .a) (few r R .0) (within unit T E)
-    where
-      within : (U T : ℕ) → T ≤ 8 * U → sizeA U T ≤ 520 * (U * U)
-      within U T h = omega (arith, mul-le-mul-left U h)
+  -- K times the sizes, at any time up to 8 seconds
+  within-a : (U T : ℕ) → T ≤ 8 * U → sizeA U T ≤ 520 * (U * U)
+  within-a U T h = omega (arith, mul-le-mul-left U h)
 
-  small-v : Size (val (s .v)) (4169 * unit)
-  small-v =
-      kept-size 4168 (offV r) (k .v) (mul-pos (zero-lt-suc 1) (mul-pos unit-pos unit-pos)) (worst .v) (few r R .1)
-      (within unit T E)
-    where
-      within : (U T : ℕ) → T ≤ 8 * U → sizeV U T ≤ 4168 * (2 * (U * U) * U)
-      within U T h = omega (arith, mul-le-mul-left (U * U) h)
+  within-v : (U T : ℕ) → T ≤ 8 * U → sizeV U T ≤ 4168 * (2 * (U * U) * U)
+  within-v U T h = omega (arith, mul-le-mul-left (U * U) h)
 
-  small-p : Size (val (s .p)) (33353 * unit)
-  small-p =
-      kept-size 33352 (offP r) (k .p) (mul-pos (zero-lt-suc 5) (mul-pos (mul-pos unit-pos unit-pos) unit-pos))
-      (worst .p) (few r R .2) (within unit T E)
-    where
-      within : (U T : ℕ) → T ≤ 8 * U → sizeP U T ≤ 33352 * (6 * (U * U * U) * U)
-      within U T h = omega (arith, mul-le-mul-left (U * U * U) h)
+  within-p : (U T : ℕ) → T ≤ 8 * U → sizeP U T ≤ 33352 * (6 * (U * U * U) * U)
+  within-p U T h = omega (arith, mul-le-mul-left (U * U * U) h)
+
+  sizes : Finite (s .a) → Finite (s .v) → Finite (s .p) → Sizes s
+  sizes fa fv fp =
+      let U² = mul-pos unit-pos unit-pos in
+      let U³ = mul-pos U² unit-pos in
+      record {
+        of-a = kept-size 520 (offA r) (k .a) fa unit-pos (worst .a) (few r R .0) (within-a unit T E);
+        of-v =
+            kept-size 4168 (offV r) (k .v) fv (mul-pos (zero-lt-suc 1) U²) (worst .v) (few r R .1) (within-v unit T E);
+        of-p =
+            kept-size 33352 (offP r) (k .p) fp (mul-pos (zero-lt-suc 5) U³) (worst .p) (few r R .2) (within-p unit T E);
+      }
 
 -- ---- one phase
 step-fits : (t j : Float) (n : Node)
@@ -280,9 +285,7 @@ module _ (r i T : ℕ) (t j : Float) (s e : Node) (m : Moving) (R : r ≤ 2 ^ 40
           size = size-weaken (val t) (mag t) (8 * unit) (val-size t) short;
         };
         of-j = record { held = fj; finite = all .j-finite; size = sj };
-        of-a = record { held = k .a .held; finite = all .a-finite; size = small-a r i T s m R (le-of-lt I) before k };
-        of-v = record { held = k .v .held; finite = all .v-finite; size = small-v r i T s m R (le-of-lt I) before k };
-        of-p = record { held = k .p .held; finite = all .p-finite; size = small-p r i T s m R (le-of-lt I) before k };
+        of-n = sizes r i T s m R (le-of-lt I) before k (all .a-finite) (all .v-finite) (all .p-finite);
       }
 
   abbrev moved : Moving
@@ -433,7 +436,7 @@ module _ {r : ℕ} {t j : ℕ → Float} {n : ℕ → Node} (z : Run r t j n) wh
   run-finite : (i : ℕ) → i < 7 → AllFinite (t i) (j i) (n i)
   run-finite = all-finite t j n 7 (λ (i : ℕ) (l : i < 7). z .steps i l .position) (z .last-p)
 
-  pub node-finite : (i : ℕ) → i ≤ 7 → Finite (n i .a) × Finite (n i .v) × Finite (n i .p)
+  node-finite : (i : ℕ) → i ≤ 7 → Finite (n i .a) × Finite (n i .v) × Finite (n i .p)
   node-finite i l =
       elim (eq-or-lt-of-le l) [
         | inl e ↦ subst (λ (k : ℕ). Finite (n k .a) × Finite (n k .v) × Finite (n k .p)) (sym e)
@@ -453,31 +456,11 @@ module _ {r : ℕ} {t j : ℕ → Float} {n : ℕ → Node} (z : Run r t j n) wh
       (z .held-t i l) (z .held-j i l) (z .jerks i l)
       (track i (le-of-lt l)) (run-finite i l) (z .steps i l) (f .0) (f .1) (f .2)
 
-  -- the sizes of the recorded numbers
-  module _ (i : ℕ) (l : i ≤ 7) where
-    pub sized-a : Sized unit (n i .a) 521
-    sized-a =
-        record {
-          held = track i l .a .held;
-          finite = node-finite i l .0;
-          size = small-a r i (elapsed t i) (n i) (motion t j (from (n 0)) i) (z .small) l (in-time i l) (track i l);
-        }
-
-    pub sized-v : Sized unit (n i .v) 4169
-    sized-v =
-        record {
-          held = track i l .v .held;
-          finite = node-finite i l .1;
-          size = small-v r i (elapsed t i) (n i) (motion t j (from (n 0)) i) (z .small) l (in-time i l) (track i l);
-        }
-
-    pub sized-p : Sized unit (n i .p) 33353
-    sized-p =
-        record {
-          held = track i l .p .held;
-          finite = node-finite i l .2;
-          size = small-p r i (elapsed t i) (n i) (motion t j (from (n 0)) i) (z .small) l (in-time i l) (track i l);
-        }
+  pub recorded-sizes : (i : ℕ) → i ≤ 7 → Sizes (n i)
+  recorded-sizes i l =
+      let f = node-finite i l in
+      sizes r i (elapsed t i) (n i) (motion t j (from (n 0)) i) (z .small) l (in-time i l) (track i l) (f .0) (f .1)
+      (f .2)
 
   -- every recorded number is near the exact motion's
   pub recorded : (i : ℕ) → i ≤ 7 → Recorded r (n i) (motion t j (from (n 0)) i)

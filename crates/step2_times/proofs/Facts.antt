@@ -7,12 +7,10 @@ use native.Mathlib.Omega.{arith}
 use lib.Dec.{T}
 use lib.Ieee.{Float, binary64, neg, sub, fits, lt}
 use lib.Ieee.Fits.{add-fits, sub-fits, div-fits, and-l}
-use Rattle.float.specs.Ops.{_⊕_, _⊖_, _⊗_, _⊘_, #0, #2, #ε}
+use Rattle.float.specs.Ops.{_⊕_, _⊖_, _⊗_, _⊘_, #2, #ε}
 use Rattle.float.specs.Helpers.{absOf}
 use Rattle.rounding.specs.Exact.{D, opposite, Same, _⊞_}
 use Rattle.rounding.specs.Value.{val, Finite}
-use Rattle.rounding.specs.Motion.{motion, state}
-use Rattle.rounding.specs.Step.{Replaced}
 use Rattle.rounding.proofs.Operands.{sub-finite, mul-finite, div-finite}
 use Rattle.rounding.proofs.Sizes.{about}
 use Rattle.rounding.proofs.Negations.{about-neg}
@@ -24,7 +22,7 @@ use Rattle.step2_solver.specs.TimeAcc0Acc1.{acc0Acc1RestApplies, acc0Acc1RestTi
 use Rattle.step2_solver.specs.TimeAcc0.{acc0FirstTimes, acc0SecondTimes, acc0ThirdTimes}
 use Rattle.step2_solver_quartic.specs.TimeAcc1Vel.{acc1VelUdduTimes, acc1VelUdudTimes}
 use Rattle.step2_solver_quartic.specs.TimeAcc0Vel.{acc0VelUdduTimes, acc0VelUdudTimes}
-use Rattle.step2_times.specs.Facts.{Numbers, Accepted, Lasts, Jerks, residual, Replaces}
+use Rattle.step2_times.specs.Facts.{Numbers, Accepted, Lasts, Replaces}
 use Rattle.step2_times.proofs.Within.{within, more, more'}
 use Rattle.step2_times.proofs.Less.{acc0-acc1-vel-uddu-lasts, acc0-acc1-vel-udud-lasts, acc0-acc1-rest-lasts}
 use Rattle.step2_times.proofs.Less.{acc0-acc1-uddu-lasts, acc0-second-lasts, acc0-third-lasts}
@@ -51,30 +49,30 @@ jf-finite tf p0 v0 a0 pf vf af a-max a-min j-max jf h =
 
 module _ (tf p0 v0 a0 pf vf af a-max a-min j-max : Float) (n : Numbers tf a0 af a-max a-min j-max) {t : ℕ → Float} where
   -- t[0] is (-a0 + a_max) / j_max and t[2] is a_max / j_max: the first and the third shape
-  up-down : {x : Times} → Accepted t x → t 0 ≡ (neg a0 ⊕ a-max) ⊘ j-max → t 2 ≡ a-max ⊘ j-max
-      → (j : ℕ → Float) (p v : Float) → Jerks j-max t j → Replaced residual #0 (motion t j (state p v a0) 3 .a)
-  up-down a e0 e2 j p v h =
-      ramps a h p v a0 (n .of-j-max) (neg a0 ⊕ a-max) a-max (add-fits binary64 (neg a0) a-max) (n .of-a-max .held)
-      (λ S R z. on-sum (about-neg (about S a0 (n .of-a0 .held))) (about S a-max (n .of-a-max .held)) z)
-      (swapped (opposite (val a0)) (val a-max)) e0 e2
+  up-down : {x : Times} → Accepted t x → Lasts t tf → t 0 ≡ (neg a0 ⊕ a-max) ⊘ j-max → t 2 ≡ a-max ⊘ j-max
+      → Replaces t tf a0 j-max
+  up-down a l e0 e2 =
+      record {
+        lasts = l;
+        replaced = λ j p v h.
+            ramps a h p v a0 (n .of-j-max) (neg a0 ⊕ a-max) a-max (add-fits binary64 (neg a0) a-max) (n .of-a-max .held)
+            (λ S R z. on-sum (about-neg (about S a0 (n .of-a0 .held))) (about S a-max (n .of-a-max .held)) z)
+            (swapped (opposite (val a0)) (val a-max)) e0 e2;
+      }
 
   -- ---- `time_acc0_acc1_vel`
   pub acc0-acc1-vel-uddu : (h1 t1 : Float)
       → Accepted t (acc0Acc1VelUdduTimes (newOf tf p0 v0 a0 pf vf af j-max) a-max a-min j-max h1 t1)
       → Replaces t tf a0 j-max
   acc0-acc1-vel-uddu h1 t1 a =
-      record {
-        lasts = acc0-acc1-vel-uddu-lasts tf p0 v0 a0 pf vf af a-max a-min j-max (n .of-tf .held) h1 t1 a;
-        replaced = unfold acc0Acc1VelUdduTimes newOf in up-down a (a .is0) (a .is2);
-      }
+      let l = acc0-acc1-vel-uddu-lasts tf p0 v0 a0 pf vf af a-max a-min j-max (n .of-tf .held) h1 t1 a in
+      unfold acc0Acc1VelUdduTimes newOf in up-down a l (a .is0) (a .is2)
 
   pub acc0-acc1-vel-udud : (t1 t3 : Float)
       → Accepted t (acc0Acc1VelUdudTimes (newOf tf p0 v0 a0 pf vf af j-max) a-max j-max t1 t3) → Replaces t tf a0 j-max
   acc0-acc1-vel-udud t1 t3 a =
-      record {
-        lasts = acc0-acc1-vel-udud-lasts tf p0 v0 a0 pf vf af a-max a-min j-max (n .of-tf .held) t1 t3 a;
-        replaced = unfold acc0Acc1VelUdudTimes newOf in up-down a (a .is0) (a .is2);
-      }
+      let l = acc0-acc1-vel-udud-lasts tf p0 v0 a0 pf vf af a-max a-min j-max (n .of-tf .held) t1 t3 a in
+      unfold acc0Acc1VelUdudTimes newOf in up-down a l (a .is0) (a .is2)
 
   -- ---- `time_acc1_vel`
   pub acc1-vel-uddu : (r h1 : Float) → T (fits binary64 h1)
@@ -108,18 +106,14 @@ module _ (tf p0 v0 a0 pf vf af a-max a-min j-max : Float) (n : Numbers tf a0 af 
   pub acc0-vel-uddu : (r h1 : Float) → T (fits binary64 h1)
       → Accepted t (acc0VelUdduTimes (newOf tf p0 v0 a0 pf vf af j-max) a-max j-max r h1) → Replaces t tf a0 j-max
   acc0-vel-uddu r h1 f a =
-      record {
-        lasts = acc0-vel-uddu-lasts tf p0 v0 a0 pf vf af a-max a-min j-max n r h1 f a;
-        replaced = unfold acc0VelUdduTimes newOf in up-down a (a .is0) (a .is2);
-      }
+      let l = acc0-vel-uddu-lasts tf p0 v0 a0 pf vf af a-max a-min j-max n r h1 f a in
+      unfold acc0VelUdduTimes newOf in up-down a l (a .is0) (a .is2)
 
   pub acc0-vel-udud : (r h1 : Float) → T (fits binary64 h1)
       → Accepted t (acc0VelUdudTimes (newOf tf p0 v0 a0 pf vf af j-max) a-max j-max r h1) → Replaces t tf a0 j-max
   acc0-vel-udud r h1 f a =
-      record {
-        lasts = acc0-vel-udud-lasts tf p0 v0 a0 pf vf af a-max a-min j-max n r h1 f a;
-        replaced = unfold acc0VelUdudTimes newOf in up-down a (a .is0) (a .is2);
-      }
+      let l = acc0-vel-udud-lasts tf p0 v0 a0 pf vf af a-max a-min j-max n r h1 f a in
+      unfold acc0VelUdudTimes newOf in up-down a l (a .is0) (a .is2)
 
   -- ---- `time_acc0_acc1`: in the rest formula t[2] is t[0], so nothing is needed of jf
   pub acc0-acc1-rest : (jf t1 : Float) → T (acc0Acc1RestApplies (newOf tf p0 v0 a0 pf vf af j-max))

@@ -6,7 +6,8 @@ use lib.Ieee.{Float, binary64, neg, sub, fits}
 use lib.Ieee.Fits.{div-fits, neg-fits}
 use Rattle.float.specs.Ops.{_⊕_, _⊖_, _⊗_, _⊘_, #0, #2}
 use Rattle.rounding.specs.Exact.{D, nought, Same, _⊞_, _⊟_, _⊙_}
-use Rattle.rounding.specs.Value.{val}
+use Rattle.rounding.specs.Value.{unit, val}
+use Rattle.rounding.specs.Bounds.{Off, Sized}
 use Rattle.rounding.proofs.Errors.{off-sum}
 use Rattle.rounding.proofs.Sizes.{on}
 use Rattle.rounding.proofs.Sums.{on-add}
@@ -17,6 +18,13 @@ use Rattle.step2_solver.specs.TimeAcc0Acc1.{acc0Acc1RestTimes, acc0Acc1UdduTime
 use Rattle.step2_solver.specs.TimeAcc0.{acc0SecondTimes, acc0ThirdTimes}
 use Rattle.step2_times.specs.Facts.{Accepted, Lasts}
 use Rattle.step2_times.proofs.Within.{sum, within, lasts-of, zero-none, less, more}
+
+-- a time that is tf less four others
+four-less : {t0 t1 t2 t3 : Float} (tf : Float) → T (fits binary64 tf)
+    → Sized unit t0 8 → Sized unit t1 8 → Sized unit t2 8 → Sized unit t3 8
+    → Sized unit (tf ⊖ (t0 ⊕ t1 ⊕ t2 ⊕ t3)) 8
+    → Off unit (val (tf ⊖ (t0 ⊕ t1 ⊕ t2 ⊕ t3))) (val tf ⊟ (val t0 ⊞ val t1 ⊞ val t2 ⊞ val t3)) 83
+four-less tf f s0 s1 s2 s3 z = less tf f (on-add (on-add (on-add (on s0) (on s1) tt) (on s2) tt) (on s3) tt) z
 
 module _ {t : ℕ → Float} (tf : Float) (f : T (fits binary64 tf)) where
   -- `time_acc0_acc1_vel`: t[6] is t[4] + y, where y is af / j, or -(af / j)
@@ -76,26 +84,23 @@ module _ {t : ℕ → Float} (tf : Float) (f : T (fits binary64 tf)) where
       → Lasts t tf
   second-lasts t0 t1 t2 t3 a =
       let w = within a in
-      lasts-of a
-      (less tf f (on-add (on-add (on-add (on (w .t0)) (on (w .t1)) tt) (on (w .t2)) tt) (on (w .t3)) tt) (w .t6))
-      (identity (val t0) (val t1) (val t2) (val t3) (val #0) (val (tf ⊖ (t0 ⊕ t1 ⊕ t2 ⊕ t3))) (val tf) zero-none) tt
+      lasts-of a (four-less tf f (w .t0) (w .t1) (w .t2) (w .t3) (w .t6))
+      (late (val t0) (val t1) (val t2) (val t3) (val #0) (val (tf ⊖ (t0 ⊕ t1 ⊕ t2 ⊕ t3))) (val tf) zero-none) tt
     where
-      identity : (t0 t1 t2 t3 z t6 f : D) → Same z nought
-          → Same (t6 ⊟ (f ⊟ (t0 ⊞ t1 ⊞ t2 ⊞ t3))) (sum t0 t1 t2 t3 z z t6 ⊟ f)
-      identity t0 t1 t2 t3 z t6 f e = omega arith
+      late : (t0 t1 t2 t3 z y f : D) → Same z nought
+          → Same (y ⊟ (f ⊟ (t0 ⊞ t1 ⊞ t2 ⊞ t3))) (sum t0 t1 t2 t3 z z y ⊟ f)
+      late t0 t1 t2 t3 z y f e = omega arith
 
   third-lasts : (t0 t1 t2 t3 : Float)
       → Accepted t (record { t0 = t0; t1 = t1; t2 = t2; t3 = t3; t4 = tf ⊖ (t0 ⊕ t1 ⊕ t2 ⊕ t3); t5 = #0; t6 = #0 })
       → Lasts t tf
   third-lasts t0 t1 t2 t3 a =
-      let w = within a in
-      lasts-of a
-      (less tf f (on-add (on-add (on-add (on (w .t0)) (on (w .t1)) tt) (on (w .t2)) tt) (on (w .t3)) tt) (w .t4))
-      (identity (val t0) (val t1) (val t2) (val t3) (val #0) (val (tf ⊖ (t0 ⊕ t1 ⊕ t2 ⊕ t3))) (val tf) zero-none) tt
+      lasts-of a (four-less tf f (within a .t0) (within a .t1) (within a .t2) (within a .t3) (within a .t4))
+      (early (val t0) (val t1) (val t2) (val t3) (val #0) (val (tf ⊖ (t0 ⊕ t1 ⊕ t2 ⊕ t3))) (val tf) zero-none) tt
     where
-      identity : (t0 t1 t2 t3 z t4 f : D) → Same z nought
-          → Same (t4 ⊟ (f ⊟ (t0 ⊞ t1 ⊞ t2 ⊞ t3))) (sum t0 t1 t2 t3 t4 z z ⊟ f)
-      identity t0 t1 t2 t3 z t4 f e = omega arith
+      early : (t0 t1 t2 t3 z y f : D) → Same z nought
+          → Same (y ⊟ (f ⊟ (t0 ⊞ t1 ⊞ t2 ⊞ t3))) (sum t0 t1 t2 t3 y z z ⊟ f)
+      early t0 t1 t2 t3 z y f e = omega arith
 
 -- ---- the attempts
 module _ (tf p0 v0 a0 pf vf af a-max a-min j : Float) (f : T (fits binary64 tf)) {t : ℕ → Float} where
