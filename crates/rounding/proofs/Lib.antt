@@ -12,6 +12,7 @@ pub mod Negations
 pub mod Sums
 pub mod Products
 pub mod Quotients
+pub mod Parts
 pub mod Limits
 pub mod Phase
 pub mod Run

@@ -37,9 +37,8 @@ product-off {S} x y R Q f g h a b k =
 
 -- ---- with what the factors were off
 module _ {S : ℕ} {x : Float} {R K : ℕ} {X : D} {β : ℕ} {y : Float} {Q L : ℕ} {Y : D} {γ : ℕ} (a : On S x R K X β)
-    (b : On unit y Q L Y γ)
-    (h : 2 ^ 52 ≤ S) (c : T (leb γ (2 ^ 53))) where
-  -- |L y| is one more at most than |Y|
+    (b : On unit y Q L Y γ) (h : 2 ^ 52 ≤ S) (c : T (leb γ (2 ^ 53))) where
+  -- |Y| is one more at most than |L y|
   other-size : Finite y → Size Y ((Q + 1) * (L * unit))
   other-size k = off-size Q (off-sym (b .about .off k)) c (size-as (size-times L (val y) (Q * unit) (b .size k)))
     where

@@ -14,7 +14,8 @@ use Rattle.rounding.proofs.Errors.{off-sum}
 use Rattle.rounding.proofs.Sizes.{about, on, on-within, exact-size}
 use Rattle.rounding.proofs.Negations.{neg-same, sized-neg, neg-sized, about-neg, on-neg}
 use Rattle.rounding.proofs.Sums.{on-sum, on-sum-forth, on-add, left-sized}
-use Rattle.rounding.proofs.Quotients.{dividend, quotient, part-sum, part-none}
+use Rattle.rounding.proofs.Quotients.{dividend, quotient}
+use Rattle.rounding.proofs.Parts.{part-sum, part-none}
 use Rattle.step2_solver.specs.New.{newOf}
 use Rattle.step2_solver_quartic.specs.TimeAcc1Vel.{acc1VelUdduTimes, acc1VelUdudTimes}
 use Rattle.step2_solver_quartic.specs.TimeAcc0Vel.{acc0VelUdduTimes, acc0VelUdudTimes}

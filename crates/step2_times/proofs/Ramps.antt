@@ -21,7 +21,8 @@ use Rattle.rounding.proofs.Literals.{mag-eps, number-eps}
 use Rattle.rounding.proofs.Limits.{dividend-none}
 use Rattle.rounding.proofs.Errors.{off-as, off-sum, off-neg, off-times, off-cancel, off-size}
 use Rattle.rounding.proofs.Sizes.{about-off, on}
-use Rattle.rounding.proofs.Quotients.{dividend, quotient, part-sum, part-neg, part-same, part-near}
+use Rattle.rounding.proofs.Quotients.{dividend, quotient}
+use Rattle.rounding.proofs.Parts.{part-sum, part-neg, part-same, part-near}
 use Rattle.step2_solver.specs.declared.Times.{Times}
 use Rattle.step2_times.specs.Facts.{Accepted, Jerks, residual}
 use Rattle.step2_times.proofs.Within.{within}

@@ -10,7 +10,7 @@ use Rattle.rounding.specs.Bounds.{Sized, Part}
 use Rattle.rounding.proofs.Operands.{neg-finite}
 use Rattle.rounding.proofs.Ops.{val-neg}
 use Rattle.rounding.proofs.Negations.{neg-sized}
-use Rattle.rounding.proofs.Quotients.{part-neg}
+use Rattle.rounding.proofs.Parts.{part-neg}
 
 -- y is the float q, or its opposite; turn is the same of exact numbers
 pub record Turned (q y : Float) (turn : D → D) : Type 0 where
