@@ -40,7 +40,7 @@ module _ {m : Move} (n : Numbers m) where
       let h1 = acc0Acc1VelUdduH1 (solver m) (m .a-max) (m .a-min) (m .j-max) in
       let t1 = acc0Acc1VelUdduT1 (solver m) (m .a-max) (m .a-min) (m .j-max) h1 in
       sound-cond (acc0Acc1VelUdduApplies (solver m) (m .a-max) (m .a-min) (m .j-max))
-      (λ z. sound-attempt UDDU Label-Acc0Acc1Vel (acc0Acc1VelUdduTimes (solver m) (m .a-max) (m .a-min) (m .j-max) h1 t1) (m .j-max) (acc0-acc1-vel-uddu-timed n h1 t1 (unfold acc0Acc1VelUdduT1 in search (div-fits))) (n .of-j-max .0) q s)
+      (λ z. sound-attempt UDDU Label-Acc0Acc1Vel (acc0Acc1VelUdduTimes (solver m) (m .a-max) (m .a-min) (m .j-max) h1 t1) (m .j-max) (acc0-acc1-vel-uddu-timed n h1 t1 (unfold acc0Acc1VelUdduT1 in search (div-fits))) (n .of-j-max .held) q s)
       (λ z. sound-nothing q s)
 
   acc0-acc1-vel-udud-sound : AlwaysSound m (acc0Acc1VelUdud (solver m) (m .v-max) (m .v-min) (m .a-max) (m .a-min) (m .j-max))
@@ -49,7 +49,7 @@ module _ {m : Move} (n : Numbers m) where
       let t1 = acc0Acc1VelUdudT1 (solver m) (m .a-max) (m .j-max) in
       let t3 = acc0Acc1VelUdudT3 (solver m) (m .a-max) (m .j-max) in
       sound-cond (acc0Acc1VelUdudApplies (solver m) (m .a-max) (m .j-max))
-      (λ z. sound-attempt UDUD Label-Acc0Acc1Vel (acc0Acc1VelUdudTimes (solver m) (m .a-max) (m .j-max) t1 t3) (m .j-max) (acc0-acc1-vel-udud-timed n t1 t3 (unfold acc0Acc1VelUdudT1 in search (div-fits)) (unfold acc0Acc1VelUdudT3 in search (add-fits))) (n .of-j-max .0) q s)
+      (λ z. sound-attempt UDUD Label-Acc0Acc1Vel (acc0Acc1VelUdudTimes (solver m) (m .a-max) (m .j-max) t1 t3) (m .j-max) (acc0-acc1-vel-udud-timed n t1 t3 (unfold acc0Acc1VelUdudT1 in search (div-fits)) (unfold acc0Acc1VelUdudT3 in search (add-fits))) (n .of-j-max .held) q s)
       (λ z. sound-nothing q s)
 
   pub acc0-acc1-vel-sound : AlwaysSound m (timeAcc0Acc1VelOf (solver m) (m .v-max) (m .v-min) (m .a-max) (m .a-min) (m .j-max))
@@ -63,14 +63,14 @@ module _ {m : Move} (n : Numbers m) where
       let x = acc1VelUdduNewton (solver m) (m .a-min) (m .j-max) root in
       let h1 = acc1VelUdduH1 (solver m) (m .a-min) (m .j-max) x in
       sound-cond (lt root t-min || lt t-max root) (λ z. sound-nothing q s)
-      (λ z. sound-attempt UDDU Label-Acc1Vel (acc1VelUdduTimes (solver m) (m .a-min) (m .j-max) x h1) (m .j-max) (acc1-vel-uddu-timed n x h1 (unfold acc1VelUdduNewton in search (cond-fits, sub-fits)) (unfold acc1VelUdduH1 in search (div-fits))) (n .of-j-max .0) q s)
+      (λ z. sound-attempt UDDU Label-Acc1Vel (acc1VelUdduTimes (solver m) (m .a-min) (m .j-max) x h1) (m .j-max) (acc1-vel-uddu-timed n x h1 (unfold acc1VelUdduNewton in search (cond-fits, sub-fits)) (unfold acc1VelUdduH1 in search (div-fits))) (n .of-j-max .held) q s)
 
   acc1-vel-udud-root-sound : (t-min t-max root : Float) → Fits64 root → AlwaysSound m (acc1VelUdudRoot (solver m) t-min t-max (m .v-max) (m .v-min) (m .a-max) (m .a-min) (m .j-max) root)
   unfolding acc1VelUdudRoot
   acc1-vel-udud-root-sound t-min t-max root f q s =
       let h1 = acc1VelUdudH1 (solver m) (m .a-max) (m .j-max) root in
       sound-cond (lt t-max root || lt root t-min) (λ z. sound-nothing q s)
-      (λ z. sound-attempt UDUD Label-Acc1Vel (acc1VelUdudTimes (solver m) (m .a-max) (m .j-max) root h1) (m .j-max) (acc1-vel-udud-timed n root h1 f (unfold acc1VelUdudH1 in search (div-fits))) (n .of-j-max .0) q s)
+      (λ z. sound-attempt UDUD Label-Acc1Vel (acc1VelUdudTimes (solver m) (m .a-max) (m .j-max) root h1) (m .j-max) (acc1-vel-udud-timed n root h1 f (unfold acc1VelUdudH1 in search (div-fits))) (n .of-j-max .held) q s)
 
   acc1-vel-uddu-sound : (answer : RootAnswer) → AnswerFits answer → AlwaysSound m (acc1VelUddu (solver m) answer (m .v-max) (m .v-min) (m .a-max) (m .a-min) (m .j-max))
   unfolding acc1VelUddu
@@ -91,7 +91,7 @@ module _ {m : Move} (n : Numbers m) where
       let x = acc0VelUdduNewton (solver m) (m .a-max) (m .j-max) root in
       let h1 = acc0VelUdduH1 (solver m) (m .a-max) (m .j-max) x in
       sound-cond (lt root t-min || lt t-max root) (λ z. sound-nothing q s)
-      (λ z. sound-attempt UDDU Label-Acc0Vel (acc0VelUdduTimes (solver m) (m .a-max) (m .j-max) x h1) (m .j-max) (acc0-vel-uddu-timed n x h1 (unfold acc0VelUdduNewton in search (cond-fits, sub-fits)) (unfold acc0VelUdduH1 in search (div-fits))) (n .of-j-max .0) q s)
+      (λ z. sound-attempt UDDU Label-Acc0Vel (acc0VelUdduTimes (solver m) (m .a-max) (m .j-max) x h1) (m .j-max) (acc0-vel-uddu-timed n x h1 (unfold acc0VelUdduNewton in search (cond-fits, sub-fits)) (unfold acc0VelUdduH1 in search (div-fits))) (n .of-j-max .held) q s)
 
   acc0-vel-udud-root-sound : (t-min t-max root : Float) → Fits64 root → AlwaysSound m (acc0VelUdudRoot (solver m) t-min t-max (m .v-max) (m .v-min) (m .a-max) (m .a-min) (m .j-max) root)
   unfolding acc0VelUdudRoot
@@ -99,7 +99,7 @@ module _ {m : Move} (n : Numbers m) where
       let x = acc0VelUdudNewton (solver m) (m .a-max) (m .j-max) root in
       let h1 = acc0VelUdudH1 (solver m) (m .a-max) (m .j-max) x in
       sound-cond (lt root t-min || lt t-max root) (λ z. sound-nothing q s)
-      (λ z. sound-attempt UDUD Label-Acc0Vel (acc0VelUdudTimes (solver m) (m .a-max) (m .j-max) x h1) (m .j-max) (acc0-vel-udud-timed n x h1 (unfold acc0VelUdudNewton in search (sub-fits)) (unfold acc0VelUdudH1 in search (div-fits))) (n .of-j-max .0) q s)
+      (λ z. sound-attempt UDUD Label-Acc0Vel (acc0VelUdudTimes (solver m) (m .a-max) (m .j-max) x h1) (m .j-max) (acc0-vel-udud-timed n x h1 (unfold acc0VelUdudNewton in search (sub-fits)) (unfold acc0VelUdudH1 in search (div-fits))) (n .of-j-max .held) q s)
 
   acc0-vel-uddu-sound : (answer : RootAnswer) → AnswerFits answer → (ph1 : Float) → AlwaysSound m (acc0VelUddu (solver m) answer ph1 (m .v-max) (m .v-min) (m .a-max) (m .a-min) (m .j-max))
   unfolding acc0VelUddu
@@ -142,7 +142,7 @@ module _ {m : Move} (n : Numbers m) where
   unfolding acc0First
   acc0-first-sound =
       let h1 = acc0FirstH1 (solver m) (m .a-max) (m .j-max) in
-      sound-attempt UDUD None (acc0FirstTimes (solver m) (m .a-max) (m .j-max) h1) (m .j-max) (acc0-first-timed n h1 (unfold acc0FirstH1 in search (sqrtOf-fits, add-fits))) (n .of-j-max .0)
+      sound-attempt UDUD None (acc0FirstTimes (solver m) (m .a-max) (m .j-max) h1) (m .j-max) (acc0-first-timed n h1 (unfold acc0FirstH1 in search (sqrtOf-fits, add-fits))) (n .of-j-max .held)
 
   acc0-second-sound : AlwaysSound m (acc0Second (solver m) (m .v-max) (m .v-min) (m .a-max) (m .a-min) (m .j-max))
   unfolding acc0Second
@@ -151,7 +151,7 @@ module _ {m : Move} (n : Numbers m) where
       let h0 = acc0SecondH0 (m .j-max) h0a (acc0SecondH0b (solver m) (m .a-max) (m .j-max)) in
       let h1 = acc0SecondH1 (m .j-max) h0a in
       let t1 = acc0SecondT1 (solver m) (m .a-max) (m .j-max) h1 in
-      sound-attempt UDDU None (acc0SecondTimes (solver m) (m .a-max) (m .j-max) h0 h1 t1) (m .j-max) (acc0-second-timed n h0 h1 t1 (unfold acc0SecondT1 in search (div-fits))) (n .of-j-max .0)
+      sound-attempt UDDU None (acc0SecondTimes (solver m) (m .a-max) (m .j-max) h0 h1 t1) (m .j-max) (acc0-second-timed n h0 h1 t1 (unfold acc0SecondT1 in search (div-fits))) (n .of-j-max .held)
 
   acc0-third-sound : AlwaysSound m (acc0Third (solver m) (m .v-max) (m .v-min) (m .a-max) (m .a-min) (m .j-max))
   unfolding acc0Third
@@ -160,7 +160,7 @@ module _ {m : Move} (n : Numbers m) where
       let h0b = acc0ThirdH0b (solver m) (m .a-max) (m .j-max) in
       let h1 = acc0ThirdH1 (m .j-max) h0a h0b in
       let h2 = acc0ThirdH2 (m .j-max) h0b in
-      sound-attempt UDDU Label-Acc0 (acc0ThirdTimes (solver m) (m .a-max) (m .j-max) h0a h1 h2) (m .j-max) (acc0-third-timed n h0a h1 h2) (n .of-j-max .0)
+      sound-attempt UDDU Label-Acc0 (acc0ThirdTimes (solver m) (m .a-max) (m .j-max) h0a h1 h2) (m .j-max) (acc0-third-timed n h0a h1 h2) (n .of-j-max .held)
 
   pub acc0-sound : AlwaysSound m (timeAcc0Of (solver m) (m .v-max) (m .v-min) (m .a-max) (m .a-min) (m .j-max))
   unfolding timeAcc0Of

@@ -10,7 +10,6 @@ use native.Mathlib.Omega.{arith}
 use lib.ListN.{getD}
 use lib.Seq.{getD-set-other}
 use lib.Ieee.{Float, nan}
-use Rattle.util.specs.Integrate.{integrateOf}
 use Rattle.profile.specs.declared.ReachedLimits.{ReachedLimits}
 use Rattle.profile.specs.declared.ControlSigns.{ControlSigns}
 use Rattle.profile.specs.declared.tests.Tests.{Tests}
@@ -24,7 +23,7 @@ use Rattle.profile.specs.Times.{sumsOf, refusedOf}
 use Rattle.profile.specs.Limit.{directionOf, bandOf}
 use Rattle.profile.specs.Phase.{Nodes, replacedOf, zeroInsideOf, nodeOf, phaseOf}
 use Rattle.profile.specs.Check.{profileOf, nodesOf, goalOf, labelsOf, labels, arrivedOf, keptOf, checkOf}
-use Rattle.rounding.specs.Step.{Node, nextA, nextV, nextP}
+use Rattle.rounding.specs.Step.{Node, stepOf}
 use Rattle.profile_arrives.specs.Reply.{jerk, node, Held}
 use Rattle.profile_arrives.proofs.Steps.{at, stored}
 use Rattle.profile_arrives.proofs.Yes.{Yes, check-yes}
@@ -87,13 +86,15 @@ module _ (f : ℕ → Nodes → Step Nodes) (g : ℕ → Node → Node) (test : 
 -- ---- the phases of `check`
 module _ (m : Tests) (a-max a-min : Float) (b : Band) (t j : List Float) where
   abbrev next : ℕ → Node → Node
-  next i s = record { a = replacedOf m false a-max a-min i (nextA (getD t i nan) (s .a) (getD j i nan)); v = nextV (getD t i nan) (s .v) (s .a) (getD j i nan); p = nextP (getD t i nan) (s .p) (s .v) (s .a) (getD j i nan) }
+  next i s =
+      let w = stepOf (getD t i nan) (getD j i nan) s in
+      record { a = replacedOf m false a-max a-min i (w .a); v = w .v; p = w .p }
 
   abbrev inside : ℕ → Node → Bool
   inside i s = zeroInsideOf i (s .v) (s .a) (next i s .a) (getD j i nan) b
 
   phases-tested : (n : Nodes) → run (phaseOf m false a-max a-min b t j) 7 0 n .ok ≡ true → (i : ℕ) → i < 7 → inside i (at (run (phaseOf m false a-max a-min b t j) 7 0 n .left) i) ≡ true
-  unfolding phaseOf nodeOf integrateOf
+  unfolding phaseOf nodeOf
   phases-tested n h i l = tested (phaseOf m false a-max a-min b t j) next inside (λ i n. refl) (λ i n. refl) 7 0 n h i zero-le l
 
 -- ---- a yes of `check`
