@@ -9,14 +9,15 @@ use lib.Ieee.{Float}
 use borrow.Author.Tests.{le-leb}
 use Rattle.float.specs.Ops.{#0}
 use Rattle.hex.specs.Hex.{hexOf, fill}
-use Rattle.profile.specs.declared.ReachedLimits.{ReachedLimits}
-use Rattle.profile.specs.declared.ControlSigns.{ControlSigns}
+use Rattle.labels.specs.declared.ReachedLimits.{ReachedLimits}
+use Rattle.labels.specs.declared.ControlSigns.{ControlSigns}
 use Rattle.profile.specs.declared.Profile.{Profile}
 use Rattle.profile.specs.declared.in_place.Answer.{Answer}
 use Rattle.profile.specs.declared.Checked.{Checked}
 use Rattle.profile.specs.declared.in_place.Goal.{Goal}
-use Rattle.profile.specs.declared.in_place.Labels.{Labels}
-use Rattle.profile.specs.Check.{profileOf, checkOf}
+use Rattle.labels.specs.declared.Labels.{Labels}
+use Rattle.profile.specs.Parts.{profileOf}
+use Rattle.profile.specs.Check.{checkOf}
 use Rattle.profile.specs.Boundary.{boundaryOf, defaultOf}
 use Rattle.roots.specs.declared.RootAnswer.{RootAnswer}
 use Rattle.step2_solver.specs.declared.PositionThirdOrderStep2.{PositionThirdOrderStep2}

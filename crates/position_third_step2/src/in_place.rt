@@ -1,8 +1,8 @@
 // A shape asked in place: the profile's arrays are lent, so that nothing is copied from one attempt to the next.
 use super::Shape;
+use labels::Labels;
 use profile::in_place::Answer;
 use profile::in_place::Goal;
-use profile::in_place::Labels;
 use roots::RootAnswer;
 use step2_shapes::acc0::time_acc0;
 use step2_shapes::acc0_acc1::time_acc0_acc1;
@@ -11,8 +11,8 @@ use step2_shapes_quartic::acc0_vel::time_acc0_vel;
 use step2_shapes_quartic::acc1_vel::time_acc1_vel;
 use step2_solver::PositionThirdOrderStep2;
 ghost use mathlib.Core.Path.{_≡_};
-ghost use Rattle.profile.specs.Phase.{Nodes};
-ghost use Rattle.profile.specs.Check.{profileOf};
+ghost use Rattle.phases.specs.Phase.{Nodes};
+ghost use Rattle.profile.specs.Parts.{profileOf};
 ghost use Rattle.position_third_step2.specs.Shape.{shapeOf};
 
 // The root answers are for the two quartics of the second and third shape; the others do not look at them.

@@ -2,10 +2,10 @@
 pub mod in_place;
 
 use in_place::ask;
+use labels::Labels;
 use profile::Checked;
 use profile::Profile;
 use profile::in_place::Goal;
-use profile::in_place::Labels;
 use roots::RootAnswer;
 use step2_solver::PositionThirdOrderStep2;
 ghost use mathlib.Core.Path.{_≡_};

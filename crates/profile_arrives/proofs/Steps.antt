@@ -8,8 +8,8 @@ use native.Mathlib.Omega.{arith}
 use lib.ListN.{length, getD, set, length-set}
 use lib.Seq.{getD-set-same, getD-set-other}
 use lib.Ieee.{Float, nan}
-use Rattle.profile.specs.Run.{Step, run}
-use Rattle.profile.specs.Phase.{Nodes}
+use Rattle.phases.specs.Run.{Step, run}
+use Rattle.phases.specs.Phase.{Nodes}
 use Rattle.rounding.specs.Step.{Node}
 
 -- ---- the steps from i on: none is left, or another one

@@ -11,13 +11,13 @@ use lib.Pow.{pow-pos}
 use lib.ListN.{getD}
 use lib.Ieee.{Float, nan}
 use Rattle.float.specs.Ops.{#0}
-use Rattle.profile.specs.declared.ControlSigns.{ControlSigns}
-use Rattle.profile.specs.declared.ControlSigns.the-variants.{UDDU, UDUD}
-use Rattle.profile.specs.declared.signs.Sign.{Sign}
-use Rattle.profile.specs.declared.signs.Sign.the-variants.{Plus, Zero, Minus}
+use Rattle.labels.specs.declared.ControlSigns.{ControlSigns}
+use Rattle.labels.specs.declared.ControlSigns.the-variants.{UDDU, UDUD}
+use Rattle.labels.specs.declared.jerks.Sign.{Sign}
+use Rattle.labels.specs.declared.jerks.Sign.the-variants.{Plus, Zero, Minus}
 use Rattle.profile.specs.declared.Profile.{Profile}
 use Rattle.profile.specs.declared.Checked.{Checked}
-use Rattle.profile.specs.Signs.{signsOf, jerkOf, jerksOf}
+use Rattle.labels.specs.Jerks.{patternOf, jerkOf, jerksOf}
 use Rattle.rounding.specs.Exact.{D, signed, Below, Same, _⊙_}
 use Rattle.rounding.specs.Value.{unit, val}
 use Rattle.rounding.specs.Motion.{motion, state, lasts, elapsed}
@@ -37,7 +37,7 @@ use Rattle.step2_arrives.proofs.Made.{Made, starts-left}
 use Rattle.step2_arrives.proofs.Sound.{AlwaysSound}
 
 -- both patterns of signs begin with +, 0, -
-begin : (signs : ControlSigns) → (getD (signsOf signs) 0 Zero ≡ Plus) × (getD (signsOf signs) 1 Zero ≡ Zero) × (getD (signsOf signs) 2 Zero ≡ Minus)
+begin : (signs : ControlSigns) → (getD (patternOf signs) 0 Zero ≡ Plus) × (getD (patternOf signs) 1 Zero ≡ Zero) × (getD (patternOf signs) 2 Zero ≡ Minus)
 begin UDDU = (refl, refl, refl)
 begin UDUD = (refl, refl, refl)
 
@@ -70,7 +70,7 @@ module _ {m : Move} {q : Profile} (d : Made m q) where
   time-is : (i : ℕ) → time q i ≡ getD (timesOf (d .times)) i nan
   time-is i = ap (λ (t : List Float). getD t i nan) (made-yes .carried .t-is ∙ d .times-are)
 
-  jerk-at : (i : ℕ) → i < 7 → (s : Sign) → getD (signsOf (d .signs)) i Zero ≡ s → jerk q i ≡ jerkOf s (time q i) (d .jf)
+  jerk-at : (i : ℕ) → i < 7 → (s : Sign) → getD (patternOf (d .signs)) i Zero ≡ s → jerk q i ≡ jerkOf s (time q i) (d .jf)
   jerk-at i l s e =
       ap (λ (j : List Float). getD j i nan) (made-yes .j-is)
       ∙ ap (λ (t : List Float). getD (jerksOf (d .signs) t (d .jf)) i nan) (sym (made-yes .carried .t-is))

@@ -5,9 +5,9 @@ use lib.Dec.{T}
 use lib.Ieee.{Float, binary64, fits}
 use lib.Ieee.Fits.{add-fits, sub-fits, div-fits}
 use lib.Ieee.Bits.{ofBits-fits}
-use Rattle.profile.specs.declared.ReachedLimits.{ReachedLimits}
-use Rattle.profile.specs.declared.ReachedLimits.the-variants.{Acc0, None}
-use Rattle.profile.specs.Labels.{testsOf}
+use Rattle.labels.specs.declared.ReachedLimits.{ReachedLimits}
+use Rattle.labels.specs.declared.ReachedLimits.the-variants.{Acc0, None}
+use Rattle.labels.specs.Tests.{testsOf}
 use Rattle.step2_solver.specs.declared.PositionThirdOrderStep2.{PositionThirdOrderStep2}
 use Rattle.step2_solver.specs.TimeAcc0Acc1Vel.{acc0Acc1VelUdduTimes, acc0Acc1VelUdudTimes}
 use Rattle.step2_solver.specs.TimeAcc0Acc1.{acc0Acc1RestApplies, acc0Acc1RestTimes, acc0Acc1UdduT1, acc0Acc1UdduTimes}

@@ -6,11 +6,12 @@ use Prim.Native.Nat.{ℕ}
 use lib.Dec.{T}
 use lib.Ieee.{Float, binary64, fits}
 use Rattle.float.specs.Ops.{#0}
-use Rattle.profile.specs.declared.ReachedLimits.{ReachedLimits}
-use Rattle.profile.specs.declared.ControlSigns.{ControlSigns}
+use Rattle.labels.specs.declared.ReachedLimits.{ReachedLimits}
+use Rattle.labels.specs.declared.ControlSigns.{ControlSigns}
 use Rattle.profile.specs.declared.Profile.{Profile}
-use Rattle.profile.specs.Labels.{testsOf}
-use Rattle.profile.specs.Check.{profileOf, nodesOf, goalOf, labelsOf, checkOf}
+use Rattle.labels.specs.Tests.{testsOf}
+use Rattle.profile.specs.Parts.{profileOf, nodesOf, goalOf, labelsOf}
+use Rattle.profile.specs.Check.{checkOf}
 use Rattle.rounding.specs.Motion.{motion, state}
 use Rattle.rounding.specs.Step.{Replaced}
 use Rattle.profile_arrives.specs.Reply.{time}

@@ -7,8 +7,8 @@ use lib.Dec.{T}
 use lib.Ieee.{Float, lt}
 use lib.Ieee.Fits.{sub-fits, add-fits, div-fits, cond-fits}
 use Rattle.sqrt.proofs.Laws.{sqrtOf-fits}
-use Rattle.profile.specs.declared.ReachedLimits.the-variants.{Acc0Acc1Vel as Label-Acc0Acc1Vel, Acc0 as Label-Acc0, Acc0Acc1 as Label-Acc0Acc1, Acc0Vel as Label-Acc0Vel, Acc1Vel as Label-Acc1Vel, None}
-use Rattle.profile.specs.declared.ControlSigns.the-variants.{UDDU, UDUD}
+use Rattle.labels.specs.declared.ReachedLimits.the-variants.{Acc0Acc1Vel as Label-Acc0Acc1Vel, Acc0 as Label-Acc0, Acc0Acc1 as Label-Acc0Acc1, Acc0Vel as Label-Acc0Vel, Acc1Vel as Label-Acc1Vel, None}
+use Rattle.labels.specs.declared.ControlSigns.the-variants.{UDDU, UDUD}
 use Rattle.profile.specs.declared.Profile.{Profile}
 use Rattle.profile_arrives.specs.Reply.{Within}
 use Rattle.roots.specs.declared.RootAnswer.{RootAnswer}

@@ -5,8 +5,8 @@ use mathlib.Core.List.{List, [], _∷_}
 use lib.Dec.{T}
 use lib.ListN.{getD}
 use lib.Ieee.{Float, nan, binary64, fits}
-use Rattle.profile.specs.declared.ReachedLimits.{ReachedLimits}
-use Rattle.profile.specs.declared.ControlSigns.{ControlSigns}
+use Rattle.labels.specs.declared.ReachedLimits.{ReachedLimits}
+use Rattle.labels.specs.declared.ControlSigns.{ControlSigns}
 use Rattle.profile.specs.declared.Profile.{Profile}
 use Rattle.profile.specs.declared.Checked.{Checked}
 use Rattle.profile_arrives.proofs.Yes.{check-carries}

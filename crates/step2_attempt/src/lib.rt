@@ -1,15 +1,15 @@
 // One attempt of a shape: its seven times, held against the goal and the limits by `check`.
 // The arrays are those of the profile, lent so that nothing is copied from one attempt to the next.
-use profile::ControlSigns;
-use profile::ReachedLimits;
+use labels::ControlSigns;
+use labels::Labels;
+use labels::ReachedLimits;
 use profile::in_place::Answer;
 use profile::in_place::Goal;
-use profile::in_place::Labels;
 use profile::in_place::check;
 use step2_solver::Times;
 ghost use mathlib.Core.Path.{_≡_};
-ghost use Rattle.profile.specs.Phase.{Nodes};
-ghost use Rattle.profile.specs.Check.{profileOf};
+ghost use Rattle.phases.specs.Phase.{Nodes};
+ghost use Rattle.profile.specs.Parts.{profileOf};
 ghost use Rattle.step2_attempt.specs.Attempt.{attemptOf};
 
 pub fn attempt(

@@ -1,7 +1,7 @@
 -- `time_acc0`: three attempts. Definitions only.
 use lib.Ieee.{Float}
-use Rattle.profile.specs.declared.ReachedLimits.the-variants.{Acc0, None}
-use Rattle.profile.specs.declared.ControlSigns.the-variants.{UDDU, UDUD}
+use Rattle.labels.specs.declared.ReachedLimits.the-variants.{Acc0, None}
+use Rattle.labels.specs.declared.ControlSigns.the-variants.{UDDU, UDUD}
 use Rattle.profile.specs.declared.Profile.{Profile}
 use Rattle.profile.specs.declared.Checked.{Checked}
 use Rattle.step2_solver.specs.declared.PositionThirdOrderStep2.{PositionThirdOrderStep2}

@@ -1,8 +1,8 @@
 -- `time_acc0_acc1`: with both end accelerations below EPS in size the rest formula only, else one attempt. Each works out its own jerk. Definitions only.
 use mathlib.Core.Bool.{cond}
 use lib.Ieee.{Float}
-use Rattle.profile.specs.declared.ReachedLimits.the-variants.{Acc0Acc1}
-use Rattle.profile.specs.declared.ControlSigns.the-variants.{UDDU}
+use Rattle.labels.specs.declared.ReachedLimits.the-variants.{Acc0Acc1}
+use Rattle.labels.specs.declared.ControlSigns.the-variants.{UDDU}
 use Rattle.profile.specs.declared.Profile.{Profile}
 use Rattle.profile.specs.declared.Checked.{Checked}
 use Rattle.step2_solver.specs.declared.PositionThirdOrderStep2.{PositionThirdOrderStep2}

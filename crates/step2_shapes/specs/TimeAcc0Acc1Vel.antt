@@ -1,8 +1,8 @@
 -- `time_acc0_acc1_vel`: two attempts, each made only where its jerk phases fit into tf. Definitions only.
 use mathlib.Core.Bool.{cond}
 use lib.Ieee.{Float}
-use Rattle.profile.specs.declared.ReachedLimits.the-variants.{Acc0Acc1Vel}
-use Rattle.profile.specs.declared.ControlSigns.the-variants.{UDDU, UDUD}
+use Rattle.labels.specs.declared.ReachedLimits.the-variants.{Acc0Acc1Vel}
+use Rattle.labels.specs.declared.ControlSigns.the-variants.{UDDU, UDUD}
 use Rattle.profile.specs.declared.Profile.{Profile}
 use Rattle.profile.specs.declared.Checked.{Checked}
 use Rattle.step2_solver.specs.declared.PositionThirdOrderStep2.{PositionThirdOrderStep2}

@@ -1,9 +1,9 @@
 // The fifth shape: the first acceleration reaches its limit. Its first two attempts carry the label None.
-use profile::ControlSigns;
-use profile::ReachedLimits;
+use labels::ControlSigns;
+use labels::Labels;
+use labels::ReachedLimits;
 use profile::in_place::Answer;
 use profile::in_place::Goal;
-use profile::in_place::Labels;
 use step2_attempt::attempt;
 use step2_solver::PositionThirdOrderStep2;
 use step2_solver::time_acc0::first_h1;
@@ -20,8 +20,8 @@ use step2_solver::time_acc0::third_h1;
 use step2_solver::time_acc0::third_h2;
 use step2_solver::time_acc0::third_times;
 ghost use mathlib.Core.Path.{_≡_};
-ghost use Rattle.profile.specs.Phase.{Nodes};
-ghost use Rattle.profile.specs.Check.{profileOf};
+ghost use Rattle.phases.specs.Phase.{Nodes};
+ghost use Rattle.profile.specs.Parts.{profileOf};
 ghost use Rattle.step2_shapes.specs.TimeAcc0.{acc0First, acc0Second, acc0Third, timeAcc0Of};
 
 // UDUD

@@ -1,9 +1,9 @@
 // The fourth shape: both accelerations reach their limits, and the velocity does not. The jerk is worked out.
-use profile::ControlSigns;
-use profile::ReachedLimits;
+use labels::ControlSigns;
+use labels::Labels;
+use labels::ReachedLimits;
 use profile::in_place::Answer;
 use profile::in_place::Goal;
-use profile::in_place::Labels;
 use step2_attempt::attempt;
 use step2_solver::PositionThirdOrderStep2;
 use step2_solver::time_acc0_acc1::rest_applies;
@@ -17,8 +17,8 @@ use step2_solver::time_acc0_acc1::uddu_jf;
 use step2_solver::time_acc0_acc1::uddu_t1;
 use step2_solver::time_acc0_acc1::uddu_times;
 ghost use mathlib.Core.Path.{_≡_};
-ghost use Rattle.profile.specs.Phase.{Nodes};
-ghost use Rattle.profile.specs.Check.{profileOf};
+ghost use Rattle.phases.specs.Phase.{Nodes};
+ghost use Rattle.profile.specs.Parts.{profileOf};
 ghost use Rattle.step2_shapes.specs.TimeAcc0Acc1.{acc0Acc1Rest, acc0Acc1Uddu, timeAcc0Acc1Of};
 
 // both end accelerations are below EPS in size

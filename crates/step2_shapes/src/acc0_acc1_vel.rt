@@ -1,9 +1,9 @@
 // The first shape: both accelerations and the velocity reach their limits.
-use profile::ControlSigns;
-use profile::ReachedLimits;
+use labels::ControlSigns;
+use labels::Labels;
+use labels::ReachedLimits;
 use profile::in_place::Answer;
 use profile::in_place::Goal;
-use profile::in_place::Labels;
 use step2_attempt::attempt;
 use step2_solver::PositionThirdOrderStep2;
 use step2_solver::time_acc0_acc1_vel::uddu_applies;
@@ -15,8 +15,8 @@ use step2_solver::time_acc0_acc1_vel::udud_t1;
 use step2_solver::time_acc0_acc1_vel::udud_t3;
 use step2_solver::time_acc0_acc1_vel::udud_times;
 ghost use mathlib.Core.Path.{_≡_};
-ghost use Rattle.profile.specs.Phase.{Nodes};
-ghost use Rattle.profile.specs.Check.{profileOf};
+ghost use Rattle.phases.specs.Phase.{Nodes};
+ghost use Rattle.profile.specs.Parts.{profileOf};
 ghost use Rattle.step2_shapes.specs.TimeAcc0Acc1Vel.{acc0Acc1VelUddu, acc0Acc1VelUdud, timeAcc0Acc1VelOf};
 
 // Profile UDDU, Solution 1

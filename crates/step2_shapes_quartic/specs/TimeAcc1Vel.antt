@@ -1,8 +1,8 @@
 -- `time_acc1_vel`: two attempts, each over the roots of a quartic, from the smallest on. Definitions only.
 use mathlib.Core.Bool.{cond, _||_}
 use lib.Ieee.{Float, lt}
-use Rattle.profile.specs.declared.ReachedLimits.the-variants.{Acc1Vel}
-use Rattle.profile.specs.declared.ControlSigns.the-variants.{UDDU, UDUD}
+use Rattle.labels.specs.declared.ReachedLimits.the-variants.{Acc1Vel}
+use Rattle.labels.specs.declared.ControlSigns.the-variants.{UDDU, UDUD}
 use Rattle.profile.specs.declared.Profile.{Profile}
 use Rattle.profile.specs.declared.Checked.{Checked}
 use Rattle.roots.specs.declared.RootAnswer.{RootAnswer}

@@ -1,9 +1,9 @@
 // The third shape: the first acceleration and the velocity reach their limits. Each attempt tries the roots of a quartic.
-use profile::ControlSigns;
-use profile::ReachedLimits;
+use labels::ControlSigns;
+use labels::Labels;
+use labels::ReachedLimits;
 use profile::in_place::Answer;
 use profile::in_place::Goal;
-use profile::in_place::Labels;
 use roots::RootAnswer;
 use roots::sorted_roots;
 use step2_attempt::attempt;
@@ -16,8 +16,8 @@ use step2_solver_quartic::time_acc0_vel::udud_h1;
 use step2_solver_quartic::time_acc0_vel::udud_newton;
 use step2_solver_quartic::time_acc0_vel::udud_times;
 ghost use mathlib.Core.Path.{_≡_};
-ghost use Rattle.profile.specs.Phase.{Nodes};
-ghost use Rattle.profile.specs.Check.{profileOf};
+ghost use Rattle.phases.specs.Phase.{Nodes};
+ghost use Rattle.profile.specs.Parts.{profileOf};
 ghost use Rattle.step2_shapes_quartic.specs.TimeAcc0Vel.{acc0VelUdduRoot, acc0VelUddu, acc0VelUdudRoot, acc0VelUdud, timeAcc0VelOf};
 
 // Profile UDDU: one root.
