@@ -1,4 +1,5 @@
-// One phase of `check`: the node after it, the accelerations that labels replace, and the velocity at zero acceleration.
+// One phase of `check`: the node after it, the accelerations that labels replace, and the velocity at zero
+// acceleration.
 use super::limit::Band;
 use float::pick;
 use labels::tests::Tests;
