@@ -29,7 +29,7 @@ use Rattle.line_frame.specs.declared.ShapeNumbers.{ShapeNumbers}
 use Rattle.line_frame.specs.Frame.{Frame}
 use Rattle.line_frame.specs.Numbers.{checkNumbersOf, shapeNumbersOf, firstAnswerOf, secondAnswerOf}
 use Rattle.line_reply.specs.Reply.{headOf, rowsOf, replyBytesOf, writtenOf}
-use Rattle.lines.specs.CheckLine.{withTimes, checkLineOf}
+use Rattle.lines.specs.CheckLine.{checkLineOf}
 use Rattle.line_questions.specs.Quartics.{solverOf}
 use Rattle.lines.specs.ShapeLine.{shapeAt, shapeLineOf}
 

@@ -6,7 +6,7 @@ use Rattle.labels.specs.declared.ReachedLimits.{ReachedLimits}
 use Rattle.labels.specs.declared.ControlSigns.{ControlSigns}
 use Rattle.profile.specs.declared.Profile.{Profile}
 use Rattle.profile.specs.declared.Checked.{Checked}
-use Rattle.profile.specs.Parts.{profileOf, nodesOf, goalOf, labelsOf}
+use Rattle.profile.specs.Parts.{withTimes}
 use Rattle.profile.specs.Check.{checkOf}
 use Rattle.step2_solver.specs.declared.Times.{Times}
 
@@ -16,7 +16,7 @@ timesOf x = x .t0 ∷ x .t1 ∷ x .t2 ∷ x .t3 ∷ x .t4 ∷ x .t5 ∷ x .t6 �
 -- `check_with_timing` after profile.t is set
 unfoldable pub attemptOf : ControlSigns → ReachedLimits → Times → Float → Float → Float → Float → Float → Profile → Checked
 attemptOf signs limits x jf v-max v-min a-max a-min q =
-    checkOf signs limits false jf v-max v-min a-max a-min (profileOf (timesOf x) (q .«t_sum») (q .j) (nodesOf q) (goalOf q) (labelsOf q))
+    checkOf signs limits false jf v-max v-min a-max a-min (withTimes (timesOf x) q)
 
 -- no attempt
 abbrev pub nothing : Profile → Checked
