@@ -7,10 +7,10 @@ mod acc1_vel;
 pub mod in_place;
 
 use in_place::ask;
+use labels::Labels;
 use profile::Checked;
 use profile::Profile;
 use profile::in_place::Goal;
-use labels::Labels;
 use roots::RootAnswer;
 use step2_solver::Limits;
 use step2_solver::PositionThirdOrderStep2;

@@ -14,7 +14,7 @@ use Rattle.phases.specs.Phase.{Nodes}
 use Rattle.rounding.specs.Step.{Node}
 
 -- ---- the steps from i on: none is left, or another one
-never : (i l : ℕ) → i ≤ l → l < i + 0 → ⊥
+pub never : (i l : ℕ) → i ≤ l → l < i + 0 → ⊥
 never i l a b = omega arith
 
 pub later : (k i l : ℕ) → i < l → l < i + suc k → (i + 1 ≤ l) × (l < i + 1 + k)
@@ -45,12 +45,12 @@ either-way P false s t h k = k
 
 module _ {X : Type 0} (f : ℕ → X → Step X) where
   -- the first step said yes, and the run is the rest of it
-  first : (k i : ℕ) (x : X) → run f (suc k) i x .ok ≡ true
+  pub first : (k i : ℕ) (x : X) → run f (suc k) i x .ok ≡ true
       → (f i x .ok ≡ true) × (run f (suc k) i x ≡ run f k (i + 1) (f i x .left))
   unfolding run
   first k i x h = went (f i x .ok) (f i x) (run f k (i + 1) (f i x .left)) refl h
 
-  rest : (k i : ℕ) (x : X) → run f (suc k) i x .ok ≡ true → run f k (i + 1) (f i x .left) .ok ≡ true
+  pub rest : (k i : ℕ) (x : X) → run f (suc k) i x .ok ≡ true → run f k (i + 1) (f i x .left) .ok ≡ true
   rest k i x h = subst (λ (s : Step X). s .ok ≡ true) (first k i x h .1) h
 
   -- every step said yes, to some x

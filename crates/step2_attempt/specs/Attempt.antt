@@ -7,7 +7,7 @@ use Rattle.labels.specs.declared.ReachedLimits.{ReachedLimits}
 use Rattle.labels.specs.declared.ControlSigns.{ControlSigns}
 use Rattle.profile.specs.declared.Profile.{Profile}
 use Rattle.profile.specs.declared.Checked.{Checked}
-use Rattle.profile.specs.Parts.{profileOf, nodesOf, goalOf, labelsOf}
+use Rattle.profile.specs.Parts.{withTimes}
 use Rattle.profile.specs.Check.{checkOf}
 use Rattle.step2_solver.specs.declared.Limits.{Limits}
 use Rattle.step2_solver.specs.declared.Times.{Times}
@@ -16,15 +16,11 @@ use Rattle.step2_solver.specs.declared.Trial.{Trial}
 abbrev pub timesOf : Times → List Float
 timesOf x = x .t0 ∷ x .t1 ∷ x .t2 ∷ x .t3 ∷ x .t4 ∷ x .t5 ∷ x .t6 ∷ []
 
--- q with the times x
-abbrev pub withTimes : Times → Profile → Profile
-withTimes x q = profileOf (timesOf x) (q .«t_sum») (q .j) (nodesOf q) (goalOf q) (labelsOf q)
-
 -- `check_with_timing` after profile.t is set
 unfoldable pub attemptOf : Limits → Trial → Profile → Checked
 attemptOf l k q =
     checkOf (k .signs) (k .label) false (k .jf) (l .«v_max») (l .«v_min») (l .«a_max») (l .«a_min»)
-    (withTimes (k .times) q)
+    (withTimes (timesOf (k .times)) q)
 
 -- no attempt
 abbrev pub nothing : Profile → Checked

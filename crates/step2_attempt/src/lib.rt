@@ -1,8 +1,8 @@
 // A trial of a shape: its seven times, held against the goal and the limits by `check`.
 // The arrays are those of the profile, lent so that nothing is copied from one attempt to the next.
+use labels::Labels;
 use profile::in_place::Answer;
 use profile::in_place::Goal;
-use labels::Labels;
 use profile::in_place::check;
 use step2_solver::Limits;
 use step2_solver::Trial;
