@@ -2,7 +2,8 @@
 use mathlib.Core.Path.{_≡_, refl, _∙_}
 use mathlib.Core.List.{[], _∷_, append-nil}
 use lib.ListN.{replicate}
-use Rattle.line_stream.specs.Output.{linesFrom, lineOutput, outputOf}
+use Rattle.line_cut.specs.Cut.{linesFrom}
+use Rattle.line_stream.specs.Output.{replyMost, lineOutput, outputOf}
 use Rattle.line_stream.proofs.FirstQuestion.{empty}
 use Rattle.line_stream.proofs.Whole.{first-refusal}
 
@@ -28,4 +29,4 @@ empty-input = refl
 
 pub empty-line : outputOf (10 ∷ []) ≡ 48 ∷ 49 ∷ 10 ∷ []
 unfolding outputOf
-empty-line = append-nil (lineOutput []) ∙ first-refusal [] (empty (replicate 728 0))
+empty-line = append-nil (lineOutput []) ∙ first-refusal [] (empty (replicate replyMost 0))

@@ -1,2 +1,2 @@
+pub mod Answered
 pub mod Output
-pub mod Stream

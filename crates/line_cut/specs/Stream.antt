@@ -1,0 +1,95 @@
+-- What is written for an input, line by line, at once and in pieces, whatever a line is answered: an answer may depend
+-- on a state that goes from line to line, and may change it. Definitions only.
+use mathlib.Core.Bool.{cond}
+use mathlib.Core.List.{List, [], _∷_, _++_}
+use mathlib.Core.Path.{_≡_}
+use Prim.Native.Nat.{ℕ, suc, _+_}
+use lib.Dec.{eqb, leb}
+use lib.ListN.{length, take}
+use Rattle.hex.specs.Hex.{fill}
+use Rattle.line_cut.specs.Cut.{lastLines, linesFrom, cut}
+
+-- what a line does: the state that it leaves, and the text that is written for it, with its line feed
+pub record LineAnswer (S : Type 0) : Type 0 where
+  pub state : S
+  pub text : List ℕ
+
+-- How far a call came: how many characters of the input it took, the first characters of the line that has begun,
+-- the state after the lines that ended, and what was written for them.
+pub record Progress (S : Type 0) : Type 0 where
+  pub used : ℕ
+  pub kept : List ℕ
+  pub state : S
+  pub written : List ℕ
+
+module _ {S : Type 0} (answer : S → List ℕ → LineAnswer S) where
+  -- lines one after the other, from a state on
+  abbrev pub outputs : S → List (List ℕ) → LineAnswer S
+  outputs s [] = record { state = s; text = [] }
+  outputs s (line ∷ lines) =
+      record {
+        state = outputs (answer s line .state) lines .state;
+        text = answer s line .text ++ outputs (answer s line .state) lines .text;
+      }
+
+  -- a whole input
+  abbrev pub wholeOf : S → List ℕ → LineAnswer S
+  wholeOf s input = outputs s (linesFrom [] input)
+
+  -- what is left where the input ends
+  abbrev pub lastOf : S → List ℕ → LineAnswer S
+  lastOf s kept = outputs s (lastLines kept)
+
+  -- one character: a line feed ends the line, any other character lengthens it
+  abbrev pub step : Progress S → ℕ → Progress S
+  step p c =
+      cond (eqb c 10)
+      (record {
+        used = suc (p .used);
+        kept = [];
+        state = answer (p .state) (p .kept) .state;
+        written = p .written ++ answer (p .state) (p .kept) .text;
+      })
+      (record {
+        used = suc (p .used);
+        kept = cut (p .kept ++ (c ∷ []));
+        state = p .state;
+        written = p .written;
+      })
+
+  module _ (most : ℕ) where
+    -- characters one after the other, as long as the room holds another text, which has at most `most`
+    unfoldable pub streamFrom : ℕ → Progress S → List ℕ → Progress S
+    streamFrom room p [] = p
+    streamFrom room p (c ∷ input) =
+        cond (leb (length (p .written) + most) room) (streamFrom room (step p c) input) p
+
+    -- one call
+    abbrev pub streamOf : ℕ → S → List ℕ → List ℕ → Progress S
+    streamOf room s kept input = streamFrom room (record { used = 0; kept = kept; state = s; written = [] }) input
+
+-- a text in the first of the lent places, and how many these are
+pub record Fills (lent text : List ℕ) (count : ℕ) (out : List ℕ) : Type 0 where
+  pub count-is : count ≡ length text
+  pub out-is : out ≡ fill text lent
+
+-- A call's outcome is p: its numbers, the first `count` places of `kept`, and the whole of the lent output.
+-- What `kept` holds past `count` is left open: nothing reads it.
+pub record Streams {S : Type 0} (p : Progress S) (used count filled : ℕ) (kept lent out : List ℕ) : Type 0 where
+  pub used-is : used ≡ p .used
+  pub count-is : count ≡ length (p .kept)
+  pub filled-is : filled ≡ length (p .written)
+  pub kept-is : take count kept ≡ p .kept
+  pub out-is : out ≡ fill (p .written) lent
+
+-- Calls one after the other. Each is given the state that the one before left, what it kept, some room and some block.
+-- In `Calls s kept input output s' kept'` they begin with s and `kept`, use `input` of their blocks, write `output`,
+-- and leave s' and kept'.
+module _ {S : Type 0} (answer : S → List ℕ → LineAnswer S) (most : ℕ) where
+  pub data Calls : S → List ℕ → List ℕ → List ℕ → S → List ℕ → Type 0 where
+    none : {s : S} {kept : List ℕ} → Calls s kept [] [] s kept
+    call : {s s' : S} {kept input output kept' : List ℕ} (room : ℕ) (block : List ℕ)
+        → Calls (streamOf answer most room s kept block .state) (streamOf answer most room s kept block .kept)
+        input output s' kept'
+        → Calls s kept (take (streamOf answer most room s kept block .used) block ++ input)
+        (streamOf answer most room s kept block .written ++ output) s' kept'
