@@ -5,7 +5,7 @@ use Prim.Native.Nat.{ℕ, _+_, _-_, _≤_, min}
 use native.Mathlib.Omega.{arith, min-cases}
 use lib.ListN.{length, take, length-take}
 use lib.Seq.{sets, length-sets, length-take-le, take-append-add, take-all}
-use Rattle.line_cut.specs.Cut.{keptMost, cut, Keeps}
+use Rattle.line_cut.specs.Cut.{Keeps}
 use Rattle.line_cut.proofs.Copies.{take-sets}
 
 -- a list is taken whole where it is shorter
@@ -59,11 +59,11 @@ pub keeps-fits : (most : ℕ) (line kept : List ℕ) (n : ℕ) → Keeps most li
 keeps-fits most line kept n k = rw (k .count-is, length-take most line) (omega arith)
 
 -- a line whose beginning was kept
-pub kept-part : (kept line kept' : List ℕ) (n : ℕ) → length kept ≡ keptMost → Keeps (length kept) line n kept'
-    → take n kept' ≡ cut line
-kept-part kept line kept' n w k = k .kept-is ∙ ap (λ (m : ℕ). take m line) w
+pub kept-part : (most : ℕ) (kept line kept' : List ℕ) (n : ℕ) → length kept ≡ most → Keeps (length kept) line n kept'
+    → take n kept' ≡ take most line
+kept-part most kept line kept' n w k = k .kept-is ∙ ap (λ (m : ℕ). take m line) w
 
 -- a line that lies in the block as a whole
-pub whole-part : (kept part : List ℕ) (count n : ℕ) → count ≡ 0 → n ≡ min keptMost (length part)
-    → take n part ≡ cut (take count kept ++ part)
-whole-part kept part count n z e = rw (z, e) (take-least keptMost part)
+pub whole-part : (most : ℕ) (kept part : List ℕ) (count n : ℕ) → count ≡ 0 → n ≡ min most (length part)
+    → take n part ≡ take most (take count kept ++ part)
+whole-part most kept part count n z e = rw (z, e) (take-least most part)

@@ -7,3 +7,4 @@ pub mod Turns
 pub mod Taken
 pub mod Whole
 pub mod Bounds
+pub mod Ends

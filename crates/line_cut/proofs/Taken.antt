@@ -7,49 +7,48 @@ use native.Mathlib.Nat.{add-zero, add-suc, suc-add}
 use native.Mathlib.Omega.{arith}
 use lib.Dec.{eqb, leb}
 use lib.ListN.{length, take}
-use Rattle.line_cut.specs.Cut.{cut}
-use Rattle.line_cut.specs.Stream.{LineAnswer, Progress, step, streamFrom}
+use Rattle.line_cut.specs.Stream.{Answering, keptMost, Progress, step, streamFrom}
 use Rattle.line_cut.proofs.Streaming.{progress}
 
-module _ {S : Type 0} (answer : S → List ℕ → LineAnswer S) where
+module _ {S : Type 0} (way : Answering S) where
   -- all characters, one after the other
   unfoldable pub run : Progress S → List ℕ → Progress S
   run p [] = p
-  run p (c ∷ input) = run (step answer p c) input
+  run p (c ∷ input) = run (step way p c) input
 
   pub run-append : (p : Progress S) (xs ys : List ℕ) → run p (xs ++ ys) ≡ run (run p xs) ys
   unfolding run
   run-append p [] ys = refl
-  run-append p (c ∷ xs) ys = run-append (step answer p c) xs ys
+  run-append p (c ∷ xs) ys = run-append (step way p c) xs ys
 
   -- one character more, by the test for a line feed
   abbrev pub next : Bool → ℕ → List ℕ → S → List ℕ → ℕ → Progress S
   next b used kept s written c =
-      cond b (progress (suc used) [] (answer s kept .state) (written ++ answer s kept .text))
-      (progress (suc used) (cut (kept ++ (c ∷ []))) s written)
+      cond b (progress (suc used) [] (way .answer s kept .state) (written ++ way .answer s kept .text))
+      (progress (suc used) (take (keptMost way) (kept ++ (c ∷ []))) s written)
 
-  pub step-used : (p : Progress S) (c : ℕ) → step answer p c .used ≡ suc (p .used)
+  pub step-used : (p : Progress S) (c : ℕ) → step way p c .used ≡ suc (p .used)
   step-used p c = by (eqb c 10)
     where
       by : (b : Bool) → next b (p .used) (p .kept) (p .state) (p .written) c .used ≡ suc (p .used)
       by true = refl
       by false = refl
 
-  pub record Takes (most room : ℕ) (p : Progress S) (block : List ℕ) : Type 0 where
+  pub record Takes (room : ℕ) (p : Progress S) (block : List ℕ) : Type 0 where
     pub count : ℕ
     pub within : count ≤ length block
-    pub used-is : streamFrom answer most room p block .used ≡ p .used + count
-    pub progress-is : streamFrom answer most room p block ≡ run p (take count block)
+    pub used-is : streamFrom way room p block .used ≡ p .used + count
+    pub progress-is : streamFrom way room p block ≡ run p (take count block)
 
-  pub takes : (most room : ℕ) (p : Progress S) (block : List ℕ) → Takes most room p block
+  pub takes : (room : ℕ) (p : Progress S) (block : List ℕ) → Takes room p block
   unfolding streamFrom run
-  takes most room p [] =
+  takes room p [] =
       record { count = 0; within = omega arith; used-is = sym (add-zero (p .used)); progress-is = refl }
-  takes most room p (c ∷ block) =
-      by (leb (length (p .written) + most) room) refl (takes most room (step answer p c) block)
+  takes room p (c ∷ block) =
+      by (leb (length (p .written) + way .textMost) room) refl (takes room (step way p c) block)
     where
-      by : (b : Bool) → leb (length (p .written) + most) room ≡ b → Takes most room (step answer p c) block
-          → Takes most room p (c ∷ block)
+      by : (b : Bool) → leb (length (p .written) + way .textMost) room ≡ b → Takes room (step way p c) block
+          → Takes room p (c ∷ block)
       by true e t =
           record {
             count = suc (t .count);

@@ -1,31 +1,31 @@
--- The loop of a stream, a line a turn, whatever a line is answered, as long as its text has at most `most` characters.
--- Assumes nothing.
+-- The loop of a stream, a line a turn, whatever a line is answered. Assumes nothing.
 use mathlib.Core.Path.{_≡_, refl, ap, sym, _∙_}
 use mathlib.Core.List.{List, _++_}
 use Prim.Native.Nat.{ℕ, suc, _+_, _-_, _≤_, _<_, min}
 use native.Mathlib.Omega.{arith}
 use lib.ListN.{length, take, drop, take-append-drop, length-take, length-drop}
 use lib.Seq.{length-sets, length-take-le, take-all, drop-drop}
-use Rattle.line_cut.specs.Cut.{keptMost, cut, lineLength, Keeps, Put}
-use Rattle.line_cut.specs.Stream.{LineAnswer, Progress, streamFrom, streamOf, Streams}
+use Rattle.line_cut.specs.Cut.{lineLength, Keeps, Put}
+use Rattle.line_cut.specs.Stream.{Answering, keptMost, Progress, streamFrom, streamOf, Streams, Holds}
 use Rattle.line_cut.proofs.Copies.{take-sets, drop-sets}
 use Rattle.line_cut.proofs.Keeping.{held}
 use Rattle.line_cut.proofs.Streaming.{progress, first, line-most, no-feed, feed, no-room}
 
-module _ {S : Type 0} (answer : S → List ℕ → LineAnswer S) (most : ℕ) where
+module _ {S : Type 0} (way : Answering S) where
   -- The call came with the state s₀ and the characters `begun`; it is at the place `at` of its input, with the state s.
   -- What comes from here on is what comes from the start; what is filled is what was written, and the rest is as lent.
   pub record Going (s₀ : S) (input begun lent : List ℕ) (s : S) (kept out : List ℕ) (count at filled : ℕ) : Type 0 where
-    pub few : count ≤ keptMost
-    pub whole : length kept ≡ keptMost
+    pub few : count ≤ keptMost way
+    pub whole : length kept ≡ keptMost way
     pub within : at ≤ length input
     pub room : filled ≤ length out
     pub same : length out ≡ length lent
     pub rest : drop filled out ≡ drop filled lent
-    pub goes : streamFrom answer most (length lent) (progress at (take count kept) s (take filled out)) (drop at input)
-        ≡ streamOf answer most (length lent) s₀ begun input
+    pub goes : streamFrom way (length lent) (progress at (take count kept) s (take filled out)) (drop at input)
+        ≡ streamOf way (length lent) s₀ begun input
 
-  pub begins : (s : S) (input kept lent : List ℕ) (count n : ℕ) → length kept ≡ keptMost → n ≡ min count keptMost
+  pub begins : (s : S) (input kept lent : List ℕ) (count n : ℕ) → length kept ≡ keptMost way
+      → n ≡ min count (keptMost way)
       → Going s input (take count kept) lent s kept lent n 0 0
   begins s input kept lent count n w e =
       record {
@@ -41,8 +41,8 @@ module _ {S : Type 0} (answer : S → List ℕ → LineAnswer S) (most : ℕ) wh
   -- an outcome, from the progress that it shows
   ends : (s₀ s : S) (input begun lent kept out : List ℕ) (used count filled : ℕ) → count ≤ length kept
       → filled ≤ length out → drop filled out ≡ drop filled lent
-      → progress used (take count kept) s (take filled out) ≡ streamOf answer most (length lent) s₀ begun input
-      → Streams (streamOf answer most (length lent) s₀ begun input) used count filled kept lent out
+      → progress used (take count kept) s (take filled out) ≡ streamOf way (length lent) s₀ begun input
+      → Streams (streamOf way (length lent) s₀ begun input) used count filled kept lent out
   ends s₀ s input begun lent kept out used count filled wk wo r e =
       let lf : length (take filled out) ≡ filled = length-take-le filled out wo in
       rw (← e)
@@ -54,11 +54,14 @@ module _ {S : Type 0} (answer : S → List ℕ → LineAnswer S) (most : ℕ) wh
         out-is = rw (lf, ← r) (sym (take-append-drop filled out));
       })
 
-module _ {S : Type 0} {answer : S → List ℕ → LineAnswer S} {most : ℕ} {s₀ s : S} {input begun lent kept out : List ℕ}
-    {count at filled : ℕ} (g : Going answer most s₀ input begun lent s kept out count at filled) where
+module _ {S : Type 0} {way : Answering S} {s₀ s : S} {input begun lent kept out : List ℕ}
+    {count at filled : ℕ} (g : Going way s₀ input begun lent s kept out count at filled) where
+  abbrev most : ℕ
+  most = way .textMost
+
   -- the whole call
   abbrev all : Progress S
-  all = streamOf answer most (length lent) s₀ begun input
+  all = streamOf way (length lent) s₀ begun input
 
   abbrev rest : List ℕ
   rest = drop at input
@@ -66,7 +69,7 @@ module _ {S : Type 0} {answer : S → List ℕ → LineAnswer S} {most : ℕ} {s
   length-rest : length rest ≡ length input - at
   length-rest = length-drop at input
 
-  held-most : length (take count kept) ≤ keptMost
+  held-most : length (take count kept) ≤ keptMost way
   held-most = rw (length-take count kept) (omega arith)
 
   filled-is : length (take filled out) ≡ filled
@@ -78,8 +81,8 @@ module _ {S : Type 0} {answer : S → List ℕ → LineAnswer S} {most : ℕ} {s
       let l : length lent < length (take filled out) + most =
       rw filled-is (less (length lent) (length out) filled most (g .same) (g .room) h) in
       let p : Progress S = progress at (take count kept) s (take filled out) in
-      let e = sym (no-room answer most (length lent) p rest l) ∙ g .goes in (
-        ends answer most s₀ s input begun lent kept out at count filled w (g .room) (g .rest) e,
+      let e = sym (no-room way (length lent) p rest l) ∙ g .goes in (
+        ends way s₀ s input begun lent kept out at count filled w (g .room) (g .rest) e,
         sym (ap (λ (p : Progress S). p .state) e),
       )
     where
@@ -93,22 +96,23 @@ module _ {S : Type 0} {answer : S → List ℕ → LineAnswer S} {most : ℕ} {s
         more : (lent out filled most : ℕ) → out ≡ lent → filled ≤ out → most ≤ out - filled → filled + most ≤ lent
         more lent out filled most e w h = omega arith
 
-    pub out-of-input : end ≡ length input → (n : ℕ) (kept' : List ℕ) → length kept' ≡ keptMost
+    pub out-of-input : end ≡ length input → (n : ℕ) (kept' : List ℕ) → length kept' ≡ keptMost way
         → Keeps (length kept) (take count kept ++ take (length input - at) rest) n kept'
         → Streams all end n filled kept' lent out × (all .state ≡ s)
     out-of-input ei n kept' wk part =
         let t : take (length input - at) rest ≡ rest =
         take-all (length input - at) rest (rw length-rest (omega arith)) in
-        let k : Keeps keptMost (take count kept ++ rest) n kept' = rw (t, g .whole) at part in
+        let k : Keeps (keptMost way) (take count kept ++ rest) n kept' = rw (t, g .whole) at part in
         let l : lineLength rest ≡ length rest =
         rw length-rest (line-all end at (length input) (lineLength rest) (g .within) ee ei) in
         let u : at + length rest ≡ end = rw length-rest (upto end at (length input) (g .within) ei) in
-        let w : n ≤ length kept' = rw (wk, k .count-is, length-take keptMost (take count kept ++ rest)) (omega arith) in
+        let w : n ≤ length kept' =
+        rw (wk, k .count-is, length-take (keptMost way) (take count kept ++ rest)) (omega arith) in
         let e : progress end (take n kept') s (take filled out) ≡ all =
         rw (k .kept-is, ← u)
-        (sym (no-feed answer most (length lent) s (take filled out) enough at (take count kept) rest held-most l)
+        (sym (no-feed way (length lent) s (take filled out) enough at (take count kept) rest held-most l)
         ∙ g .goes) in (
-          ends answer most s₀ s input begun lent kept' out end n filled w (g .room) (g .rest) e,
+          ends way s₀ s input begun lent kept' out end n filled w (g .room) (g .rest) e,
           sym (ap (λ (p : Progress S). p .state) e),
         )
       where
@@ -127,17 +131,18 @@ module _ {S : Type 0} {answer : S → List ℕ → LineAnswer S} {most : ℕ} {s
 
     -- the line that ends here, as it is kept
     abbrev pub line : List ℕ
-    line = cut (take count kept ++ take (end - at) rest)
+    line = take (keptMost way) (take count kept ++ take (end - at) rest)
 
-    part-is : line ≡ cut (take count kept ++ first rest)
+    part-is : line ≡ take (keptMost way) (take count kept ++ first rest)
     part-is = let e : end - at ≡ lineLength rest = omega arith in rw e
 
-    pub turns : length (answer s line .text) ≤ most → (end ≡ length input → ⊥) → (kept' out' : List ℕ) (filled' : ℕ)
-        → length kept' ≡ keptMost → Put out filled (answer s line .text) filled' out'
-        → Going answer most s₀ input begun lent (answer s line .state) kept' out' 0 (end + 1) filled'
-    turns m ne kept' out' filled' wk p =
-        let x : List ℕ = answer s line .text in
-        let fit : filled + length x ≤ length out = fits (length x) filled (length out) most m (g .room) h in
+    pub turns : Holds way → (end ≡ length input → ⊥) → (kept' out' : List ℕ) (filled' : ℕ)
+        → length kept' ≡ keptMost way → Put out filled (way .answer s line .text) filled' out'
+        → Going way s₀ input begun lent (way .answer s line .state) kept' out' 0 (end + 1) filled'
+    turns holds ne kept' out' filled' wk p =
+        let x : List ℕ = way .answer s line .text in
+        let fit : filled + length x ≤ length out =
+        fits (length x) filled (length out) most (holds .text-most s line) (g .room) h in
         let lo : length out' ≡ length out = ap length (p .out-is) ∙ length-sets out filled x in
         let b : lineLength rest < length rest =
         rw length-rest (before end at (length input) (lineLength rest) end-within ne (g .within) ee) in
@@ -161,7 +166,7 @@ module _ {S : Type 0} {answer : S → List ℕ → LineAnswer S} {most : ℕ} {s
               ∙ sym (drop-drop (suc (lineLength rest)) at input)) in
               let u : at + suc (lineLength rest) ≡ end + 1 = rw ee (sym (sum at (lineLength rest))) in
               rw (t, i, ← u, part-is)
-              (sym (feed answer most (length lent) s (take filled out) enough at (take count kept) rest held-most b)
+              (sym (feed way (length lent) s (take filled out) enough at (take count kept) rest held-most b)
               ∙ g .goes);
         }
       where

@@ -1,4 +1,4 @@
--- The lines of an input, and how much of a line is kept. Definitions only.
+-- The lines of an input, the first characters of a line, and a text in lent places. Definitions only.
 use mathlib.Core.Bool.{Bool, true, cond, not, _&&_}
 use mathlib.Core.List.{List, [], _∷_, _++_}
 use mathlib.Core.Path.{_≡_}
@@ -28,17 +28,6 @@ abbrev pub noFeed : ℕ → List ℕ → Bool
 noFeed zero input = true
 noFeed (suc n) [] = true
 noFeed (suc n) (c ∷ input) = not (eqb c 10) && noFeed n input
-
--- the longest line that is looked at as a whole
-abbrev pub longest : ℕ
-longest = 296
-
--- Of a line that has begun one character more is kept: it tells a longer line, of which no more is asked.
-abbrev pub keptMost : ℕ
-keptMost = longest + 1
-
-abbrev pub cut : List ℕ → List ℕ
-cut line = take keptMost line
 
 -- the first characters of a line, at most so many, in the first places
 pub record Keeps (most : ℕ) (line : List ℕ) (count : ℕ) (kept : List ℕ) : Type 0 where

@@ -3,11 +3,11 @@
 use mathlib.Core.Bool.{cond}
 use mathlib.Core.List.{List, [], _∷_, _++_}
 use mathlib.Core.Path.{_≡_}
-use Prim.Native.Nat.{ℕ, suc, _+_}
+use Prim.Native.Nat.{ℕ, suc, _+_, _≤_}
 use lib.Dec.{eqb, leb}
 use lib.ListN.{length, take}
 use Rattle.hex.specs.Hex.{fill}
-use Rattle.line_cut.specs.Cut.{lastLines, linesFrom, cut}
+use Rattle.line_cut.specs.Cut.{lastLines, linesFrom}
 
 -- what a line does: the state that it leaves, and the text that is written for it, with its line feed
 pub record LineAnswer (S : Type 0) : Type 0 where
@@ -22,15 +22,25 @@ pub record Progress (S : Type 0) : Type 0 where
   pub state : S
   pub written : List ℕ
 
-module _ {S : Type 0} (answer : S → List ℕ → LineAnswer S) where
+-- A way to answer lines: what a line does in a state; the most characters of a text; and the longest line that is
+-- answered by all its characters.
+pub record Answering (S : Type 0) : Type 0 where
+  pub answer : S → List ℕ → LineAnswer S
+  pub textMost : ℕ
+  pub lineMost : ℕ
+
+-- the characters kept of a line that has begun: one more, which tells a longer line, of which no more is asked
+abbrev pub keptMost : {S : Type 0} → Answering S → ℕ
+keptMost way = suc (way .lineMost)
+
+module _ {S : Type 0} (way : Answering S) where
   -- lines one after the other, from a state on
   abbrev pub outputs : S → List (List ℕ) → LineAnswer S
   outputs s [] = record { state = s; text = [] }
   outputs s (line ∷ lines) =
-      record {
-        state = outputs (answer s line .state) lines .state;
-        text = answer s line .text ++ outputs (answer s line .state) lines .text;
-      }
+      let a = way .answer s line in
+      let b = outputs (a .state) lines in
+      record { state = b .state; text = a .text ++ b .text }
 
   -- a whole input
   abbrev pub wholeOf : S → List ℕ → LineAnswer S
@@ -43,30 +53,25 @@ module _ {S : Type 0} (answer : S → List ℕ → LineAnswer S) where
   -- one character: a line feed ends the line, any other character lengthens it
   abbrev pub step : Progress S → ℕ → Progress S
   step p c =
+      let a = way .answer (p .state) (p .kept) in
       cond (eqb c 10)
+      (record { used = suc (p .used); kept = []; state = a .state; written = p .written ++ a .text })
       (record {
         used = suc (p .used);
-        kept = [];
-        state = answer (p .state) (p .kept) .state;
-        written = p .written ++ answer (p .state) (p .kept) .text;
-      })
-      (record {
-        used = suc (p .used);
-        kept = cut (p .kept ++ (c ∷ []));
+        kept = take (keptMost way) (p .kept ++ (c ∷ []));
         state = p .state;
         written = p .written;
       })
 
-  module _ (most : ℕ) where
-    -- characters one after the other, as long as the room holds another text, which has at most `most`
-    unfoldable pub streamFrom : ℕ → Progress S → List ℕ → Progress S
-    streamFrom room p [] = p
-    streamFrom room p (c ∷ input) =
-        cond (leb (length (p .written) + most) room) (streamFrom room (step p c) input) p
+  -- characters one after the other, as long as the room holds another text
+  unfoldable pub streamFrom : ℕ → Progress S → List ℕ → Progress S
+  streamFrom room p [] = p
+  streamFrom room p (c ∷ input) =
+      cond (leb (length (p .written) + way .textMost) room) (streamFrom room (step p c) input) p
 
-    -- one call
-    abbrev pub streamOf : ℕ → S → List ℕ → List ℕ → Progress S
-    streamOf room s kept input = streamFrom room (record { used = 0; kept = kept; state = s; written = [] }) input
+  -- one call
+  abbrev pub streamOf : ℕ → S → List ℕ → List ℕ → Progress S
+  streamOf room s kept input = streamFrom room (record { used = 0; kept = kept; state = s; written = [] }) input
 
 -- a text in the first of the lent places, and how many these are
 pub record Fills (lent text : List ℕ) (count : ℕ) (out : List ℕ) : Type 0 where
@@ -85,11 +90,16 @@ pub record Streams {S : Type 0} (p : Progress S) (used count filled : ℕ) (kept
 -- Calls one after the other. Each is given the state that the one before left, what it kept, some room and some block.
 -- In `Calls s kept input output s' kept'` they begin with s and `kept`, use `input` of their blocks, write `output`,
 -- and leave s' and kept'.
-module _ {S : Type 0} (answer : S → List ℕ → LineAnswer S) (most : ℕ) where
+module _ {S : Type 0} (way : Answering S) where
   pub data Calls : S → List ℕ → List ℕ → List ℕ → S → List ℕ → Type 0 where
     none : {s : S} {kept : List ℕ} → Calls s kept [] [] s kept
     call : {s s' : S} {kept input output kept' : List ℕ} (room : ℕ) (block : List ℕ)
-        → Calls (streamOf answer most room s kept block .state) (streamOf answer most room s kept block .kept)
-        input output s' kept'
-        → Calls s kept (take (streamOf answer most room s kept block .used) block ++ input)
-        (streamOf answer most room s kept block .written ++ output) s' kept'
+        → Calls (streamOf way room s kept block .state) (streamOf way room s kept block .kept) input output s' kept'
+        → Calls s kept (take (streamOf way room s kept block .used) block ++ input)
+        (streamOf way room s kept block .written ++ output) s' kept'
+
+-- The way holds what it says: no text has more characters than `textMost`, and what is kept of a line is answered as
+-- the line is.
+pub record Holds {S : Type 0} (way : Answering S) : Type 0 where
+  pub text-most : (s : S) (line : List ℕ) → length (way .answer s line .text) ≤ way .textMost
+  pub kept-same : (s : S) (line : List ℕ) → way .answer s (take (keptMost way) line) ≡ way .answer s line

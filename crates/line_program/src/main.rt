@@ -3,7 +3,7 @@
 // What is written for which input is `line_stream`'s; here blocks are read and written.
 use libc::STDIN_FILENO;
 use libc::STDOUT_FILENO;
-use line_cut::KEPT;
+use line_stream::KEPT;
 use line_stream::ROOM;
 ghost use Prim.Native.Nat.{_≤_};
 ghost use lib.ListN.{length};

@@ -1,5 +1,5 @@
--- A line's text: its length is at most `answerMost`, and it does not depend on what the lent places hold, where `replyMost`
--- are lent. Assumes nothing.
+-- A line's text: its length is at most `answerMost`, and it does not depend on what the lent places hold, where
+-- `replyMost` are lent. Assumes nothing.
 use mathlib.Core.Path.{_≡_, refl, ap, sym, _∙_}
 use mathlib.Core.Bool.{Bool, true, false, cond}
 use mathlib.Core.List.{List, [], _∷_, _++_}
@@ -91,7 +91,8 @@ module _ (line lent : List ℕ) (h : replyMost ≤ length lent) where
   output-reply said =
       ap (λ (l : List ℕ). l ++ (10 ∷ [])) (reply-text line (replicate replyMost 0) (zeros-number ∙ said))
 
-  pub output-number : (n : ℕ) → answerOf line lent .number ≡ n → (n ≡ 0 → ⊥) → lineOutput line ≡ twoDigits n ++ (10 ∷ [])
+  pub output-number : (n : ℕ) → answerOf line lent .number ≡ n → (n ≡ 0 → ⊥)
+      → lineOutput line ≡ twoDigits n ++ (10 ∷ [])
   unfolding lineOutput answeredOf
   output-number n e z =
       ap (λ (l : List ℕ). l ++ (10 ∷ []))

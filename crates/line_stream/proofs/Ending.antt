@@ -6,10 +6,10 @@ use native.Mathlib.Omega.{arith}
 use lib.ListN.{length, take}
 use lib.Seq.{length-take-le}
 use Rattle.hex.proofs.Turns.{sets-fill}
-use Rattle.line_cut.specs.Cut.{keptMost, Put}
-use Rattle.line_cut.specs.Stream.{Fills}
+use Rattle.line_cut.specs.Cut.{Put}
+use Rattle.line_cut.specs.Stream.{keptMost, Fills}
 use Rattle.line_cut.proofs.Keeping.{held}
-use Rattle.line_stream.specs.Output.{answerMost, lineOutput, lastOutput}
+use Rattle.line_stream.specs.Output.{answerMost, lineOutput, lineWay, lastOutput}
 use Rattle.line_stream.proofs.Answers.{output-most}
 
 pub put-same : (out : List ℕ) (at : ℕ) (line line' : List ℕ) (r : ℕ) (out' : List ℕ) → line ≡ line'
@@ -23,11 +23,12 @@ last-one [] h = absurd (none h)
     none h = omega arith
 last-one (c ∷ line) h = append-nil (lineOutput (c ∷ line))
 
-module _ (kept : List ℕ) (count n : ℕ) (e : n ≡ min count keptMost) where
+module _ (kept : List ℕ) (count n : ℕ) (e : n ≡ min count (keptMost lineWay)) where
   pub none-held : n ≡ 0 → (out : List ℕ) → Fills out (lastOutput (take count kept)) 0 out
   none-held z out = let c : count ≡ 0 = omega arith in rw c (record { count-is = refl; out-is = refl })
 
-  pub one-held : length kept ≡ keptMost → (n ≡ 0 → ⊥) → (out : List ℕ) (r : ℕ) (out' : List ℕ) → length out ≡ answerMost
+  pub one-held : length kept ≡ keptMost lineWay → (n ≡ 0 → ⊥) → (out : List ℕ) (r : ℕ) (out' : List ℕ)
+      → length out ≡ answerMost
       → Put out 0 (lineOutput (take n kept)) r out' → Fills out (lastOutput (take count kept)) r out'
   one-held whole z out r out' w p =
       let k : 0 < length (take n kept) = rw (length-take-le n kept (omega arith)) (omega (arith, z)) in

@@ -1,4 +1,4 @@
--- An empty line and a line of more than `longest` characters fail question 1. Assumes nothing.
+-- An empty line and a line of more than `lineMost` characters fail question 1. Assumes nothing.
 use mathlib.Core.Path.{_≡_, refl}
 use mathlib.Core.Bool.{Bool, true, false, _&&_}
 use mathlib.Core.List.{List, []}
@@ -8,16 +8,16 @@ use lib.ListN.{length}
 use borrow.Author.Tests.{lt-leb}
 use Rattle.line_questions.specs.Questions.{countFits}
 use Rattle.lines.specs.Answer.{answerOf}
-use Rattle.line_cut.specs.Cut.{longest}
+use Rattle.line_stream.specs.Output.{lineMost}
 
-long : (n : ℕ) → longest < n → countFits n ≡ false
-long n h = rw (lt-leb n longest h) (by (eqb (n % 2) 0 && leb 2 n))
+long : (n : ℕ) → lineMost < n → countFits n ≡ false
+long n h = rw (lt-leb n lineMost h) (by (eqb (n % 2) 0 && leb 2 n))
   where
     by : (b : Bool) → b && false ≡ false
     by true = refl
     by false = refl
 
-pub too-long : (line lent : List ℕ) → longest < length line → answerOf line lent .number ≡ 1
+pub too-long : (line lent : List ℕ) → lineMost < length line → answerOf line lent .number ≡ 1
 unfolding answerOf
 too-long line lent h = rw (long (length line) h)
 

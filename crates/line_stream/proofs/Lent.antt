@@ -16,7 +16,8 @@ use Rattle.line_stream.specs.Output.{replyMost, answerMost, twoDigits, l
 use Rattle.line_stream.proofs.Answers.{filled-most, output-reply, output-number}
 
 -- three characters, one store each
-pub three : (out : List ℕ) (at a b c : ℕ) → Put out at (a ∷ b ∷ c ∷ []) (at + 3) (set (set (set out at a) (at + 1) b) (at + 2) c)
+pub three : (out : List ℕ) (at a b c : ℕ)
+    → Put out at (a ∷ b ∷ c ∷ []) (at + 3) (set (set (set out at a) (at + 1) b) (at + 2) c)
 three out at a b c =
     let e1 : at + 1 ≡ suc at = omega arith in
     let e2 : at + 2 ≡ suc (suc at) = omega arith in
@@ -88,7 +89,8 @@ module _ (line out places : List ℕ) (at n m : ℕ) (h : at + answerMost ≤ le
       (put-last out (replyTo line) (back out at places) at 10
       (ap (back out at) p ∙ back-reply out (replyTo line) at b))
 
-  pub refused : (n ≡ 0 → ⊥) → (end : ℕ) (left : List ℕ) → Put (back out at places) at (twoDigits n ++ (10 ∷ [])) end left
+  pub refused : (n ≡ 0 → ⊥) → (end : ℕ) (left : List ℕ)
+      → Put (back out at places) at (twoDigits n ++ (10 ∷ [])) end left
       → Put out at (lineOutput line) end left
   refused z end left p =
       let said : answerOf line lent .number ≡ 0 → ⊥ = λ s. z (sym number-is ∙ s) in

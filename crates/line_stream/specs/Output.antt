@@ -4,8 +4,12 @@ use mathlib.Core.List.{List, [], _∷_, _++_}
 use Prim.Native.Nat.{ℕ, _+_, _/_, _%_}
 use lib.Dec.{eqb}
 use lib.ListN.{take, replicate}
-use Rattle.line_cut.specs.Stream.{LineAnswer, Progress, wholeOf, lastOf, streamOf}
+use Rattle.line_cut.specs.Stream.{Answering, Progress, wholeOf, lastOf, streamOf}
 use Rattle.line_stream.specs.Answered.{Answered, answeredOf}
+
+-- the characters of the longest line that passes question 1
+abbrev pub lineMost : ℕ
+lineMost = 296
 
 -- the most places of a reply
 abbrev pub replyMost : ℕ
@@ -27,18 +31,23 @@ textOf a = cond (eqb (a .number) 0) (take (a .filled) (a .places)) (twoDigits (a
 unfoldable pub lineOutput : List ℕ → List ℕ
 lineOutput line = textOf (answeredOf line (replicate replyMost 0)) ++ (10 ∷ [])
 
--- nothing goes from line to line
-abbrev pub lineAnswer : Unit {0} → List ℕ → LineAnswer (Unit {0})
-lineAnswer s line = record { state = s; text = lineOutput line }
+-- the line entry as a way to answer lines: nothing goes from line to line
+abbrev pub lineWay : Answering (Unit {0})
+lineWay =
+    record {
+      answer = λ s line. record { state = s; text = lineOutput line };
+      textMost = answerMost;
+      lineMost = lineMost;
+    }
 
 -- the whole output for a whole input
 unfoldable pub outputOf : List ℕ → List ℕ
-outputOf input = wholeOf lineAnswer tt input .text
+outputOf input = wholeOf lineWay tt input .text
 
 -- one call: with some room, what is kept of a line that has begun, and a block
 abbrev pub callOf : ℕ → List ℕ → List ℕ → Progress (Unit {0})
-callOf room kept block = streamOf lineAnswer answerMost room tt kept block
+callOf room kept block = streamOf lineWay room tt kept block
 
 -- what is written where the input ends
 abbrev pub lastOutput : List ℕ → List ℕ
-lastOutput kept = lastOf lineAnswer tt kept .text
+lastOutput kept = lastOf lineWay tt kept .text

@@ -2,8 +2,8 @@
 use crate::answered::answer_counted;
 ghost use mathlib.Core.Path.{_≡_};
 ghost use mathlib.Core.List.{_++_, _∷_, []};
-ghost use Prim.Native.Nat.{_+_, _%_, _≤_};
-ghost use lib.ListN.{length, take};
+ghost use Prim.Native.Nat.{_+_, _%_, _≤_, _<_};
+ghost use lib.ListN.{length, take, set};
 ghost use Rattle.line_cut.specs.Cut.{Put};
 ghost use Rattle.line_stream.specs.Output.{twoDigits, lineOutput, answerMost};
 
@@ -24,6 +24,15 @@ fn write_number(n: u32, out: &mut [u8], at: usize) -> usize
     at + 3
 }
 
+// A line feed after a reply that fills so many places from `at` on; says where it ends.
+fn end_reply(out: &mut [u8], at: usize, filled: usize) -> usize
+    requires { ⌜ at + filled < length (now out) ⌝ }
+    ensures { λ r. ⌜ (r ≡ at + filled + 1) × (now (out .exit) ≡ set (now (out .entry)) (at + filled) 10) ⌝ }
+{
+    out[at + filled] = b'\n';
+    at + filled + 1
+}
+
 // The answer to the line of the first `count` characters, from `at` on; says where it ends.
 pub fn write_line(text: &[u8], count: usize, out: &mut [u8], at: usize) -> usize
     requires { ⌜ (count ≤ length (now text)) × (at + answerMost ≤ length (now out)) ⌝ }
@@ -31,9 +40,7 @@ pub fn write_line(text: &[u8], count: usize, out: &mut [u8], at: usize) -> usize
 {
     let a = answer_counted(&text[..count], &mut out[at..]);
     if a.number == 0 {
-        let end = at + a.filled;
-        out[end] = b'\n';
-        return end + 1;
+        return end_reply(out, at, a.filled);
     }
     write_number(a.number, out, at)
 }

@@ -7,7 +7,8 @@ pub struct Answered {
     pub filled: usize,
 }
 
-// The places of the reply to a line, if it is accepted, by its first two characters: kinds 06 and 07 have the shorter one.
+// The places of the reply to a line, if it is accepted, by its first two characters: kinds 06 and 07 have the shorter
+// one.
 fn reply_length(line: &[u8]) -> usize
     ensures { λ r. ⌜ r ≡ guessed (now (line .entry)) ⌝ }
 {

@@ -3,7 +3,6 @@ mod answer;
 mod answered;
 
 use answer::write_line;
-use line_cut::KEPT;
 use line_cut::keep::keep;
 use line_cut::keep::least;
 use line_cut::line_feed::find;
@@ -11,14 +10,20 @@ ghost use mathlib.Core.Path.{_≡_};
 ghost use mathlib.Core.List.{_++_};
 ghost use Prim.Native.Nat.{_+_, _≤_};
 ghost use lib.ListN.{length, take};
-ghost use Rattle.line_cut.specs.Cut.{keptMost, cut, Put};
-ghost use Rattle.line_cut.specs.Stream.{Fills, Streams};
-ghost use Rattle.line_stream.specs.Output.{lineOutput, answerMost, callOf, lastOutput};
+ghost use Rattle.line_cut.specs.Cut.{Put};
+ghost use Rattle.line_cut.specs.Stream.{keptMost, Fills, Streams};
+ghost use Rattle.line_stream.specs.Output.{lineOutput, answerMost, lineWay, callOf, lastOutput};
 
-// The most places of a reply: `replyMost` in the definitions.
-pub const REPLY: usize = 728;
+// The longest line that is answered by all its characters, and the places of the longest reply: `lineMost` and
+// `replyMost` in the definitions.
+const LINE: usize = 296;
 
-// The most places of a line's answer, a line feed among them: `answerMost`.
+const REPLY: usize = 728;
+
+// The characters kept of a line that has begun.
+pub const KEPT: usize = LINE + 1;
+
+// The places that a line's answer may take, a line feed among them.
 pub const ROOM: usize = REPLY + 1;
 
 // How far a call came: the characters of the input that it used, those kept of a line that has begun, and the places of
@@ -31,11 +36,12 @@ pub struct Streamed {
 
 // The line that `part` ends. One that lies in the block as a whole is answered where it stands.
 fn end_line(part: &[u8], kept: &mut [u8], count: usize, out: &mut [u8], at: usize) -> usize
-    requires { ⌜ length (now kept) ≡ keptMost ⌝ }
+    requires { ⌜ length (now kept) ≡ keptMost lineWay ⌝ }
     requires { ⌜ at + answerMost ≤ length (now out) ⌝ }
     ensures { λ r. ⌜
-        Put (now (out .entry)) at (lineOutput (cut (take count (now (kept .entry)) ++ now (part .entry)))) r
-        (now (out .exit))
+        Put (now (out .entry)) at
+        (lineOutput (take (keptMost lineWay) (take count (now (kept .entry)) ++ now (part .entry))))
+        r (now (out .exit))
         ⌝ }
 {
     if count == 0 {
@@ -47,7 +53,7 @@ fn end_line(part: &[u8], kept: &mut [u8], count: usize, out: &mut [u8], at: usiz
 }
 
 fn stream_lines(input: &[u8], kept: &mut [u8], count: usize, out: &mut [u8]) -> Streamed
-    requires { ⌜ length (now kept) ≡ keptMost ⌝ }
+    requires { ⌜ length (now kept) ≡ keptMost lineWay ⌝ }
     ensures { λ r. ⌜
         Streams (callOf (length (now (out .entry))) (take count (now (kept .entry))) (now (input .entry)))
         (r .used) (r .count) (r .filled) (now (kept .exit)) (now (out .entry)) (now (out .exit))

@@ -1,4 +1,5 @@
--- `answer` is safe and ends: each call of `stream` uses something of the input. The measure is what is left of it. Assumes nothing.
+-- `answer` is safe and ends: each call of `stream` uses something of the input. The measure is what is left of it.
+-- Assumes nothing.
 use mathlib.Core.Path.{_≡_, sym, _∙_}
 use Prim.Native.Nat.{ℕ, _≤_, _<_, _+_, _-_, _^_}
 use native.Mathlib.Omega.{arith}
@@ -6,7 +7,7 @@ use lib.ListN.{length}
 use lib.Seq.{length-take-le}
 use borrow.Author.Needs.{needs}
 use Rattle.line_cut.proofs.Bounds.{advances, filled-within}
-use Rattle.line_stream.specs.Output.{answerMost, lineAnswer}
+use Rattle.line_stream.specs.Output.{answerMost, lineWay}
 use Rattle.line_program.proofs.answer.Statement.{statement}
 use Rattle.line_program.proofs.answer.Tie as tie
 
@@ -24,7 +25,7 @@ add-at c =
     let s = l .before .before .before in
     let w : answerMost ≤ length (l .loop .out) = omega arith in
     let m =
-    advances lineAnswer answerMost (s .args .input .now) tt _ _ (l .loop .out) _ (l .loop .at) _ _ _
+    advances lineWay (s .args .input .now) tt _ _ (l .loop .out) _ (l .loop .at) _ _ _
     (t .loop-test .taken) w (y .stream .ensures) in
     record { fits = next _ _ (m .1) (s .good .0 .0) }
   where
@@ -49,7 +50,7 @@ loop-less c =
     let s = l .before .before .before in
     let w : answerMost ≤ length (l .loop .out) = omega arith in
     let m =
-    advances lineAnswer answerMost (s .args .input .now) tt _ _ (l .loop .out) _ (l .loop .at) _ _ _
+    advances lineWay (s .args .input .now) tt _ _ (l .loop .out) _ (l .loop .at) _ _ _
     (t .loop-test .taken) w (y .stream .ensures) in
     less _ _ _ (m .0) (m .1)
   where
@@ -64,7 +65,7 @@ loop-again c =
     let s = l .before .before .before in
     let w : answerMost ≤ length (l .loop .out) = omega arith in
     let m =
-    advances lineAnswer answerMost (s .args .input .now) tt _ _ (l .loop .out) _ (l .loop .at) _ _ _
+    advances lineWay (s .args .input .now) tt _ _ (l .loop .out) _ (l .loop .at) _ _ _
     (t .loop-test .taken) w (y .stream .ensures) in
     let e : length (y .stream .last .1 .1 .1 .0) ≡ length (l .loop .out) = search needs in
     (m .1, e ∙ l .loop .inv .1)

@@ -13,7 +13,8 @@ returns c =
     let n = w .before .before in
     let q = n .before .before .before .before .before .args in
     put-same (q .out .now) (q .at) _ _ _ _
-    (whole-part (q .kept .now) (q .part .now) (q .count) (n .least .result) (n .before .if1 .taken) (n .least .ensures))
+    (whole-part _ (q .kept .now) (q .part .now) (q .count) (n .least .result) (n .before .if1 .taken)
+    (n .least .ensures))
     (w .write-line .ensures)
 
 write-line-requires-2 : tie.Need-write-line-requires-2
@@ -30,7 +31,7 @@ returns-2 c =
     let s = k .before .before .before .before .before .before in
     let q = s .args in
     put-same (q .out .now) (q .at) _ _ _ _
-    (kept-part (q .kept .now) _ (k .keep .last .0) (k .keep .result) (s .pre .0) (k .keep .ensures))
+    (kept-part _ (q .kept .now) _ (k .keep .last .0) (k .keep .result) (s .pre .0) (k .keep .ensures))
     (w .write-line2 .ensures)
 
 pub end-line-spec : {M : Type 1} → statement M

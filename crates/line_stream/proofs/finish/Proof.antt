@@ -2,8 +2,8 @@
 use mathlib.Core.Path.{_≡_}
 use lib.ListN.{length}
 use borrow.Author.Needs.{needs}
-use Rattle.line_cut.specs.Cut.{keptMost}
-use Rattle.line_stream.specs.Output.{answerMost}
+use Rattle.line_cut.specs.Stream.{keptMost}
+use Rattle.line_stream.specs.Output.{answerMost, lineWay}
 use Rattle.line_stream.proofs.Ending.{none-held, one-held}
 use Rattle.line_stream.proofs.finish.Statement.{statement}
 use Rattle.line_stream.proofs.finish.Tie as tie
@@ -19,7 +19,7 @@ returns-2 c =
     let i = c .before .before .before in
     let n = i .before in
     let q = n .before .args in
-    let w : length (q .kept .now) ≡ keptMost = search needs in
+    let w : length (q .kept .now) ≡ keptMost lineWay = search needs in
     let l : length (q .out .now) ≡ answerMost = search needs in
     one-held (q .kept .now) (q .count) (n .least .result) (n .least .ensures) w (i .if1 .left) (q .out .now)
     (c .write-line .result)

@@ -1,19 +1,20 @@
--- `stream_lines` is `callOf`. The invariant is `Going`; the measure is what is left of the input, and one more. Assumes nothing.
+-- `stream_lines` is `callOf`. The invariant is `Going`; the measure is what is left of the input, and one more.
+-- Assumes nothing.
 use mathlib.Core.Path.{_≡_, sym, _∙_}
 use Prim.Native.Nat.{ℕ, _≤_, _<_, _+_, _-_, _^_}
 use native.Mathlib.Omega.{arith}
 use lib.ListN.{length, take}
 use borrow.Author.Needs.{needs}
-use Rattle.line_cut.specs.Cut.{keptMost}
+use Rattle.line_cut.specs.Stream.{keptMost}
 use Rattle.line_cut.proofs.Turns.{Going, begins, out-of-room, out-of-input, end-within, turns}
-use Rattle.line_stream.specs.Output.{answerMost, lineAnswer}
-use Rattle.line_stream.proofs.Answers.{output-most}
+use Rattle.line_stream.specs.Output.{answerMost, lineWay}
+use Rattle.line_stream.proofs.Whole.{holds}
 use Rattle.line_stream.proofs.stream_lines.Statement.{statement}
 use Rattle.line_stream.proofs.stream_lines.Tie as tie
 
 abbrev Inv-loop : tie.InvT-loop
 Inv-loop input kept₀ count out₀ count₀ at₀ filled₀ kept out count' at filled =
-    Going lineAnswer answerMost tt input (take count kept₀) out₀ tt kept out count' at filled
+    Going lineWay tt input (take count kept₀) out₀ tt kept out count' at filled
 
 abbrev μ-loop : tie.MeasureT-loop
 μ-loop input kept₀ count out₀ count₀ at₀ filled₀ kept out count' at filled = length input + 1 - at
@@ -22,7 +23,7 @@ loop-holds : tie.Need-loop-holds Inv-loop μ-loop
 loop-holds c =
     let s = c .before .before .before .before in
     let q = s .args in
-    begins lineAnswer answerMost tt (q .input .now) (q .kept .now) (q .out .now) (q .count) (c .least .result) (s .pre)
+    begins lineWay tt (q .input .now) (q .kept .now) (q .out .now) (q .count) (c .least .result) (s .pre)
     (c .least .ensures)
 
 sub-loop : tie.Need-sub-loop Inv-loop μ-loop
@@ -40,7 +41,7 @@ part-keep-end c = omega arith
 same-length : tie.Need-same-length Inv-loop μ-loop
 same-length c =
     let k = c .before .before in
-    let w : length (k .keep .last .0) ≡ keptMost = search needs in
+    let w : length (k .keep .last .0) ≡ keptMost lineWay = search needs in
     w ∙ sym (k .before .before .before .before .before .before .before .before .before .before .before .pre)
 
 same-length-2 : tie.Need-same-length-2 Inv-loop μ-loop
@@ -51,7 +52,7 @@ returns c =
     let k = c .before .before in
     let i = k .before .before .before in
     let f = i .before in
-    let w : length (k .keep .last .0) ≡ keptMost = search needs in
+    let w : length (k .keep .last .0) ≡ keptMost lineWay = search needs in
     out-of-input (f .before .before .loop .inv) (f .before .loop-test .taken) (f .find .result) (f .find .ensures)
     (i .if1 .taken)
     (k .keep .result)
@@ -102,9 +103,9 @@ loop-again c =
     let e = c .before .before .before .before in
     let i = e .before .before .before .before in
     let f = i .before in
-    let w : length (e .end-line .last .1 .0) ≡ keptMost = search needs in
+    let w : length (e .end-line .last .1 .0) ≡ keptMost lineWay = search needs in
     turns (f .before .before .loop .inv) (f .before .loop-test .taken) (f .find .result) (f .find .ensures)
-    (output-most _)
+    holds
     (i .if1 .left)
     _
     _

@@ -7,37 +7,26 @@ use Rattle.line_stream.proofs.Lent.{filled-few, replied, refused}
 use Rattle.line_stream.proofs.answer.write_line.Statement.{statement}
 use Rattle.line_stream.proofs.answer.write_line.Tie as tie
 
-add-end : tie.Need-add-end
-add-end c =
+end-reply-requires : tie.Need-end-reply-requires
+end-reply-requires c κs =
     let a = c .before .before .before .before .before in
     let s = a .before .before .before .before .before in
     let q = s .args in
-    let m = filled-few (take (q .count) (q .text .now)) (q .out .now) _ (q .at) _ _ (s .pre .1) (a .answer-counted .ensures) in
-    search needs
-
-slice-write-out : tie.Need-slice-write-out
-slice-write-out c =
-    let a = c .before .before .before .before .before in
-    let s = a .before .before .before .before .before in
-    let q = s .args in
-    let m = filled-few (take (q .count) (q .text .now)) (q .out .now) _ (q .at) _ _ (s .pre .1) (a .answer-counted .ensures) in
-    search needs
-
-add-result : tie.Need-add-result
-add-result c =
-    let a = c .before .before .before .before .before in
-    let s = a .before .before .before .before .before in
-    let q = s .args in
-    let m = filled-few (take (q .count) (q .text .now)) (q .out .now) _ (q .at) _ _ (s .pre .1) (a .answer-counted .ensures) in
+    let m =
+    filled-few (take (q .count) (q .text .now)) (q .out .now) _ (q .at) _ _ (s .pre .1)
+    (a .answer-counted .ensures) in
     search needs
 
 returns : tie.Need-returns
 returns c =
-    let a = c .before .before .before .before .before in
+    let p = c .before .before in
+    let i = p .before .before in
+    let a = i .before .before .before .before in
     let s = a .before .before .before .before .before in
     let q = s .args in
-    replied (take (q .count) (q .text .now)) (q .out .now) _ (q .at) _ _ (s .pre .1) (a .answer-counted .ensures)
-    (c .before .if1 .taken)
+    rw (p .end-reply .ensures .0, p .end-reply .ensures .1)
+    (replied (take (q .count) (q .text .now)) (q .out .now) _ (q .at) _ _ (s .pre .1) (a .answer-counted .ensures)
+    (i .if1 .taken))
 
 returns-2 : tie.Need-returns-2
 returns-2 c =
@@ -61,9 +50,7 @@ write-line-spec =
     (λ c. search needs)
     (λ c. search needs)
     (λ c κs. search needs)
-    add-end
-    slice-write-out
-    add-result
+    end-reply-requires
     (λ c. search needs)
     returns
     (λ c κs. search needs)
