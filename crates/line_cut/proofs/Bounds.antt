@@ -10,7 +10,8 @@ use lib.ListN.{length, take, drop, length-append, length-drop}
 use lib.Seq.{length-take-le}
 use borrow.Author.Tests.{le-leb}
 use Rattle.hex.specs.Hex.{fill}
-use Rattle.line_cut.specs.Stream.{Progress, Answering, step, streamFrom, streamOf, Fills, Streams}
+use Rattle.line_cut.specs.Stream.{Progress, Answering, step, streamFrom, streamOf, Streams}
+use Rattle.line_cut.specs.Cut.{Fills}
 use Rattle.line_cut.proofs.Streaming.{progress}
 use Rattle.line_cut.proofs.Taken.{Takes, takes, step-used}
 

@@ -5,10 +5,10 @@ use Prim.Native.Nat.{ℕ, suc, _+_, _-_, _≤_, _<_, min}
 use native.Mathlib.Omega.{arith}
 use lib.ListN.{length, take, drop, take-append-drop, length-take, length-drop}
 use lib.Seq.{length-sets, length-take-le, take-all, drop-drop}
-use Rattle.line_cut.specs.Cut.{lineLength, Keeps, Put}
+use Rattle.line_cut.specs.Cut.{lineLength, lengthened, Fills, Put}
 use Rattle.line_cut.specs.Stream.{Answering, keptMost, Progress, streamFrom, streamOf, Streams, Holds}
 use Rattle.line_cut.proofs.Copies.{take-sets, drop-sets}
-use Rattle.line_cut.proofs.Keeping.{held}
+use Rattle.line_cut.proofs.Keeping.{held, kept-part, keeps-fits}
 use Rattle.line_cut.proofs.Streaming.{progress, first, line-most, no-feed, feed, no-room}
 
 module _ {S : Type 0} (way : Answering S) where
@@ -97,19 +97,20 @@ module _ {S : Type 0} {way : Answering S} {s₀ s : S} {input begun lent kept ou
         more lent out filled most e w h = omega arith
 
     pub out-of-input : end ≡ length input → (n : ℕ) (kept' : List ℕ) → length kept' ≡ keptMost way
-        → Keeps (length kept) (take count kept ++ take (length input - at) rest) n kept'
+        → Fills kept (lengthened kept count (take (length input - at) rest)) n kept'
         → Streams all end n filled kept' lent out × (all .state ≡ s)
     out-of-input ei n kept' wk part =
         let t : take (length input - at) rest ≡ rest =
         take-all (length input - at) rest (rw length-rest (omega arith)) in
-        let k : Keeps (keptMost way) (take count kept ++ rest) n kept' = rw (t, g .whole) at part in
+        let k : take n kept' ≡ take (keptMost way) (take count kept ++ rest) =
+        rw t at (kept-part (keptMost way) kept (take (length input - at) rest) kept' count n (g .whole) part) in
         let l : lineLength rest ≡ length rest =
         rw length-rest (line-all end at (length input) (lineLength rest) (g .within) ee ei) in
         let u : at + length rest ≡ end = rw length-rest (upto end at (length input) (g .within) ei) in
         let w : n ≤ length kept' =
-        rw (wk, k .count-is, length-take (keptMost way) (take count kept ++ rest)) (omega arith) in
+        rw (wk, ← g .whole) (keeps-fits kept (take (length input - at) rest) kept' count n part) in
         let e : progress end (take n kept') s (take filled out) ≡ all =
-        rw (k .kept-is, ← u)
+        rw (k, ← u)
         (sym (no-feed way (length lent) s (take filled out) enough at (take count kept) rest held-most l)
         ∙ g .goes) in (
           ends way s₀ s input begun lent kept' out end n filled w (g .room) (g .rest) e,

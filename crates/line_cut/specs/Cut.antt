@@ -1,4 +1,4 @@
--- The lines of an input, the first characters of a line, and a text in lent places. Definitions only.
+-- The lines of an input, a line that goes on, and a text in lent places. Definitions only.
 use mathlib.Core.Bool.{Bool, true, cond, not, _&&_}
 use mathlib.Core.List.{List, [], _∷_, _++_}
 use mathlib.Core.Path.{_≡_}
@@ -6,6 +6,7 @@ use Prim.Native.Nat.{ℕ, zero, suc, _+_}
 use lib.Dec.{eqb}
 use lib.ListN.{length, take}
 use lib.Seq.{sets}
+use Rattle.hex.specs.Hex.{fill}
 
 -- What is left where the input ends is a line if it has a character: after a line feed at the very end there is no
 -- further line.
@@ -29,10 +30,14 @@ noFeed zero input = true
 noFeed (suc n) [] = true
 noFeed (suc n) (c ∷ input) = not (eqb c 10) && noFeed n input
 
--- the first characters of a line, at most so many, in the first places
-pub record Keeps (most : ℕ) (line : List ℕ) (count : ℕ) (kept : List ℕ) : Type 0 where
-  pub count-is : count ≡ length (take most line)
-  pub kept-is : take count kept ≡ take most line
+-- as much of a line as there are places: its first `count` characters stand there, and `part` goes on
+abbrev pub lengthened : List ℕ → ℕ → List ℕ → List ℕ
+lengthened kept count part = take (length kept) (take count kept ++ part)
+
+-- a text in the first of the lent places, and how many these are
+pub record Fills (lent text : List ℕ) (count : ℕ) (out : List ℕ) : Type 0 where
+  pub count-is : count ≡ length text
+  pub out-is : out ≡ fill text lent
 
 -- a text stored from one place on, and where it ends
 pub record Put (lent : List ℕ) (at : ℕ) (text : List ℕ) (end : ℕ) (out : List ℕ) : Type 0 where

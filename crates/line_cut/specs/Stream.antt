@@ -73,11 +73,6 @@ module _ {S : Type 0} (way : Answering S) where
   abbrev pub streamOf : ℕ → S → List ℕ → List ℕ → Progress S
   streamOf room s kept input = streamFrom room (record { used = 0; kept = kept; state = s; written = [] }) input
 
--- a text in the first of the lent places, and how many these are
-pub record Fills (lent text : List ℕ) (count : ℕ) (out : List ℕ) : Type 0 where
-  pub count-is : count ≡ length text
-  pub out-is : out ≡ fill text lent
-
 -- A call's outcome is p: its numbers, the first `count` places of `kept`, and the whole of the lent output.
 -- What `kept` holds past `count` is left open: nothing reads it.
 pub record Streams {S : Type 0} (p : Progress S) (used count filled : ℕ) (kept lent out : List ℕ) : Type 0 where

@@ -1,10 +1,8 @@
 // The first characters of a line that has begun.
 use crate::copy::copy;
 ghost use mathlib.Core.Path.{_≡_};
-ghost use mathlib.Core.List.{_++_};
 ghost use Prim.Native.Nat.{min};
-ghost use lib.ListN.{length, take};
-ghost use Rattle.line_cut.specs.Cut.{Keeps};
+ghost use Rattle.line_cut.specs.Cut.{lengthened, Fills};
 
 pub fn least(a: usize, b: usize) -> usize
     ensures { λ r. ⌜ r ≡ min a b ⌝ }
@@ -15,7 +13,7 @@ pub fn least(a: usize, b: usize) -> usize
 // Lengthens the line by `part`, as far as there are places.
 pub fn keep(kept: &mut [u8], count: usize, part: &[u8]) -> usize
     ensures { λ r. ⌜
-        Keeps (length (now (kept .entry))) (take count (now (kept .entry)) ++ now (part .entry)) r (now (kept .exit))
+        Fills (now (kept .entry)) (lengthened (now (kept .entry)) count (now (part .entry))) r (now (kept .exit))
         ⌝ }
 {
     let begun = least(count, kept.len());

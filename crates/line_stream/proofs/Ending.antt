@@ -6,8 +6,8 @@ use native.Mathlib.Omega.{arith}
 use lib.ListN.{length, take}
 use lib.Seq.{length-take-le}
 use Rattle.hex.proofs.Turns.{sets-fill}
-use Rattle.line_cut.specs.Cut.{Put}
-use Rattle.line_cut.specs.Stream.{keptMost, Fills}
+use Rattle.line_cut.specs.Cut.{Fills, Put}
+use Rattle.line_cut.specs.Stream.{keptMost}
 use Rattle.line_cut.proofs.Keeping.{held}
 use Rattle.line_stream.specs.Output.{answerMost, lineOutput, lineWay, lastOutput}
 use Rattle.line_stream.proofs.Answers.{output-most}

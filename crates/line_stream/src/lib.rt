@@ -10,8 +10,8 @@ ghost use mathlib.Core.Path.{_≡_};
 ghost use mathlib.Core.List.{_++_};
 ghost use Prim.Native.Nat.{_+_, _≤_};
 ghost use lib.ListN.{length, take};
-ghost use Rattle.line_cut.specs.Cut.{Put};
-ghost use Rattle.line_cut.specs.Stream.{keptMost, Fills, Streams};
+ghost use Rattle.line_cut.specs.Cut.{Fills, Put};
+ghost use Rattle.line_cut.specs.Stream.{keptMost, Streams};
 ghost use Rattle.line_stream.specs.Output.{lineOutput, answerMost, lineWay, callOf, lastOutput};
 
 // The longest line that is answered by all its characters, and the places of the longest reply: `lineMost` and

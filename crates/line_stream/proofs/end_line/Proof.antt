@@ -22,7 +22,7 @@ write-line-requires-2 c κs =
     let k = c .before .before .before .before in
     let s = k .before .before .before .before .before .before in
     let h : length (k .keep .last .0) ≡ length (s .args .kept .now) = search needs in
-    (rw h (keeps-fits _ _ (k .keep .last .0) (k .keep .result) (k .keep .ensures)), s .pre .1)
+    (rw h (keeps-fits (s .args .kept .now) (s .args .part .now) _ (s .args .count) _ (k .keep .ensures)), s .pre .1)
 
 returns-2 : tie.Need-returns-2
 returns-2 c =
@@ -31,7 +31,8 @@ returns-2 c =
     let s = k .before .before .before .before .before .before in
     let q = s .args in
     put-same (q .out .now) (q .at) _ _ _ _
-    (kept-part _ (q .kept .now) _ (k .keep .last .0) (k .keep .result) (s .pre .0) (k .keep .ensures))
+    (kept-part _ (q .kept .now) (q .part .now) (k .keep .last .0) (q .count) (k .keep .result) (s .pre .0)
+    (k .keep .ensures))
     (w .write-line2 .ensures)
 
 pub end-line-spec : {M : Type 1} → statement M
