@@ -1,12 +1,12 @@
 // `check` by value for the benchmarks in bench/: the record is made of lent arrays, and what comes back is stored there.
 // It has a library of its own: beside another caller of `check` in place, that function is called and not inlined.
 use bench_labels::answer_number;
-use profile::ControlSigns;
-use profile::Direction;
+use labels::ControlSigns;
+use labels::Direction;
+use labels::Labels;
+use labels::ReachedLimits;
 use profile::Profile;
-use profile::ReachedLimits;
 use profile::in_place::Answer;
-use profile::in_place::Labels;
 ghost use mathlib.Core.Path.{_≡_};
 ghost use Rattle.bench_labels.specs.Lent.{checkLentOf};
 

@@ -4,13 +4,14 @@ use mathlib.Core.Bool.{Bool}
 use mathlib.Core.List.{List}
 use Prim.Native.Nat.{ℕ}
 use lib.Ieee.{Float}
-use Rattle.profile.specs.Check.{checkOf, profileOf, labelsOf, nodesOf}
-use Rattle.profile.specs.Phase.{Nodes}
-use Rattle.profile.specs.declared.ReachedLimits.{ReachedLimits}
-use Rattle.profile.specs.declared.ControlSigns.{ControlSigns}
+use Rattle.profile.specs.Parts.{profileOf, labelsOf, nodesOf}
+use Rattle.profile.specs.Check.{checkOf}
+use Rattle.phases.specs.Phase.{Nodes}
+use Rattle.labels.specs.declared.ReachedLimits.{ReachedLimits}
+use Rattle.labels.specs.declared.ControlSigns.{ControlSigns}
 use Rattle.profile.specs.declared.Checked.{Checked}
 use Rattle.profile.specs.declared.in_place.Goal.{Goal}
-use Rattle.profile.specs.declared.in_place.Labels.{Labels}
+use Rattle.labels.specs.declared.Labels.{Labels}
 use Rattle.labels.specs.Labels.{labelOf, signsOf, startLabels}
 use Rattle.bench_labels.specs.Codes.{answerNumber}
 use Rattle.bench_labels.specs.Lent.{Left, leftOf, checkLentOf}

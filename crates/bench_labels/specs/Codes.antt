@@ -1,7 +1,7 @@
 -- Verdict and labels as one number. Definitions only.
 use mathlib.Core.Bool.{cond}
 use Prim.Native.Nat.{ℕ, _+_, _*_}
-use Rattle.profile.specs.Labels.{labelNumber, directionNumber, signsNumber}
+use Rattle.labels.specs.Labels.{labelNumber, directionNumber, signsNumber}
 use Rattle.profile.specs.declared.in_place.Answer.{Answer}
 
 -- verdict (1 yes), direction, signs and label, as the digits of a number of the bases 2, 2, 2 and 8

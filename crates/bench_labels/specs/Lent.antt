@@ -3,8 +3,9 @@ use mathlib.Core.Bool.{Bool}
 use mathlib.Core.List.{List}
 use Prim.Native.Nat.{ℕ}
 use lib.Ieee.{Float}
-use Rattle.profile.specs.Check.{checkOf, profileOf, labelsOf}
-use Rattle.profile.specs.Phase.{Nodes}
+use Rattle.profile.specs.Parts.{profileOf, labelsOf}
+use Rattle.profile.specs.Check.{checkOf}
+use Rattle.phases.specs.Phase.{Nodes}
 use Rattle.profile.specs.declared.Checked.{Checked}
 use Rattle.profile.specs.declared.in_place.Goal.{Goal}
 use Rattle.labels.specs.Labels.{labelOf, signsOf, startLabels}

@@ -1,11 +1,11 @@
 -- What the code of `abs`, `min`, `max`, `is_finite` and `to_bits` tests, worked out at each kind of float: NaN, an infinity, a number. Assumes nothing.
 use Prim.Native.Nat.{ℕ, zero, suc, _+_, _*_, _%_, _<_, _≤_, _^_}
 use mathlib.Core.Path.{_≡_, refl, ap, sym, subst, _∙_}
-use mathlib.Core.Bool.{Bool, true, false, not, cond, true≢false}
+use mathlib.Core.Bool.{Bool, true, false, not, _&&_, cond, true≢false}
 use native.Mathlib.Nat.{mul-one, one-mul, zero-mul, mul-pos, zero-lt-suc, pow-succ'}
 use native.Mathlib.Omega.{arith}
 use lib.IntN.{ℤ, pos, negsuc}
-use lib.Dec.{T, eqb, ltb, eqb→eq}
+use lib.Dec.{T, eqb, ltb, eqb→eq, ltb→lt}
 use lib.Pow.{pow-pos}
 use lib.Ieee.{Float, nan, inf, fin, binary64, up, down, lt, eq, ne, neg, fits, isNan, nanBits, ofBits, level}
 use lib.Ieee.Fits.{up-pos}
@@ -54,6 +54,46 @@ abs-is (fin false zero e) h = rw (zero-exponent false e h)
 abs-is (fin true zero e) h = rw (zero-exponent true e h)
 abs-is (fin false (suc m) e) h = rw (not-below (suc m * up e * 1) (down e), unequal m (down e) e)
 abs-is (fin true (suc m) e) h = rw (below m (down e) e)
+
+-- ---- an absolute value below y: x is below y, and -y below x
+
+implied : (o k : Bool) → (o ≡ true → k ≡ true) → (o ≡ o && k) × (o ≡ k && o)
+implied false false h = (refl, refl)
+implied false true h = (refl, refl)
+implied true k h = (rw (h refl), rw (h refl))
+
+and-false : (o : Bool) → false ≡ o && false
+and-false false = refl
+and-false true = refl
+
+positive-above : (a b c : ℕ) → b ≤ c → ltb a b ≡ true → ltb 0 c ≡ true
+positive-above a b c k h = lt-ltb 0 c (larger a b c (ltb→lt a b (subst T (sym h) tt)) k)
+  where
+    larger : (a b c : ℕ) → a < b → b ≤ c → 0 < c
+    larger a b c h k = omega arith
+
+pub near-is : (x y : Float) → lt (absOf x) y ≡ lt x y && lt (neg y) x
+unfolding lt neg absOf
+near-is nan y = refl
+near-is (inf s) nan = refl
+near-is (inf true) (inf true) = refl
+near-is (inf true) (inf false) = refl
+near-is (inf false) (inf t) = refl
+near-is (inf true) (fin t n d) = refl
+near-is (inf false) (fin t n d) = refl
+near-is (fin s m e) nan = refl
+near-is (fin s m e) (inf true) = refl
+near-is (fin s m e) (inf false) = refl
+near-is (fin false m e) (fin false n d) =
+    let a = m * up e * down d in
+    let b = n * up d * down e in
+    implied (ltb a b) (ltb 0 (b + a)) (positive-above a b (b + a) (omega arith)) .0
+near-is (fin true m e) (fin false n d) =
+    let a = m * up e * down d in
+    let b = n * up d * down e in
+    implied (ltb a b) (ltb 0 (a + b)) (positive-above a b (a + b) (omega arith)) .1
+near-is (fin false m e) (fin true n d) = refl
+near-is (fin true m e) (fin true n d) = and-false (ltb (n * up d * down e) (m * up e * down d))
 
 -- ---- the smaller and the larger: x differs from itself exactly where it is NaN
 own : (s : Bool) (a : ℕ) → level s a s a ≡ true

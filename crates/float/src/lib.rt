@@ -2,7 +2,7 @@
 // over the logic's account of IEEE 754, in which all NaNs are one.
 ghost use mathlib.Core.Path.{_≡_};
 ghost use mathlib.Core.Bool.{cond};
-ghost use lib.Ieee.{binary64, ofBits, toBits};
+ghost use lib.Ieee.{binary64, ofBits, toBits, lt};
 ghost use lib.Ieee.Scale.{finite};
 ghost use Rattle.float.specs.Helpers.{absOf, minOf, maxOf};
 
@@ -24,6 +24,13 @@ pub fn abs(x: f64) -> f64
     ensures { λ r. ⌜ r ≡ absOf x ⌝ }
 {
     pick(x < 0.0, -x, pick(x == 0.0, 0.0, x))
+}
+
+// `d.abs() < e`, by two comparisons that do not wait for each other.
+pub fn near(d: f64, e: f64) -> bool
+    ensures { λ r. ⌜ r ≡ lt (absOf d) e ⌝ }
+{
+    (d < e) & (-e < d)
 }
 
 // `f64::min`.

@@ -10,7 +10,7 @@ use lib.Dec.{eqb, ltb}
 use lib.ListN.{length, getD, take, drop, set, length-append, length-drop, length-map, drop-of-length-le, List·getD-append, replicate, length-replicate, length-take}
 use lib.Seq.{take-all, drop-append-le, drop-cons, drop-drop, drop-set-lt, getD-drop, take-at, drop-at, slice, slice-cons, slice-empty, sets, sets-eq}
 use borrow.Author.Tests.{lt-ltb, le-ltb, ltb-false, eqb-false}
-use Rattle.hex.specs.Hex.{isDigit, allDigits, valueOf, pairsOf, bytesOf, digitOf, hexOf, fill, padded, decodeOf, encodeOf}
+use Rattle.hex.specs.Hex.{isDigit, allDigits, valueOf, pairsOf, bytesOf, digitOf, hexOf, fill, decodeOf, encodeOf}
 use Rattle.hex.specs.Steps.{nibblesOf}
 use Rattle.hex.proofs.Digits.{and-left, and-right, or-left, or-right}
 use Rattle.hex.proofs.Pair.{digit-lt}
@@ -203,48 +203,21 @@ module _ (bytes lent : List ℕ) (h : length bytes ≤ length lent / 2) where
   encoded reply e = rw (le-ltb (length lent / 2) (length bytes) h, e, shape)
 
 -- ---- the ways out of decoding
-drop-zeros : (n m : ℕ) → _≡_ {A = List ℕ} (drop n (replicate m 0)) (replicate (m - n) 0)
-drop-zeros zero m = let e : m - 0 ≡ m = omega arith in rw e
-drop-zeros (suc n) zero = let e : 0 - suc n ≡ 0 = omega arith in rw e
-drop-zeros (suc n) (suc m) = let e : suc m - suc n ≡ m - n = omega arith in rw e (drop-zeros n m)
-
-append-assoc : (xs ys zs : List ℕ) → (xs ++ ys) ++ zs ≡ xs ++ (ys ++ zs)
-append-assoc [] ys zs = refl
-append-assoc (x ∷ xs) ys zs = ap (λ (r : List ℕ). x ∷ r) (append-assoc xs ys zs)
-
--- bytes over zeros are the bytes padded
-module _ (n : ℕ) (lent : List ℕ) where
-  abbrev zeroes : List ℕ
-  zeroes = replicate n 0
-
-  long : length zeroes ≡ n
-  long = length-replicate {A = ℕ} n 0
-
-  room : n ≤ length (fill zeroes lent)
-  room = rw (length-append zeroes (drop (length zeroes) lent), long) (omega arith)
-
-  over-zeros : (xs : List ℕ) → length xs ≤ n → fill xs (fill zeroes lent) ≡ fill (padded n xs) lent
-  over-zeros xs h =
-      let e : length xs + (n - length xs) ≡ n = omega arith in
-      rw
-      (drop-append-le (length xs) zeroes (drop (length zeroes) lent) (rw long h), drop-zeros (length xs) n, long, length-append xs (replicate (n - length xs) 0), length-replicate {A = ℕ} (n - length xs) 0, e)
-      (sym (append-assoc xs (replicate (n - length xs) 0) (drop n lent)))
-
 module _ (line lent : List ℕ) where
-  pub none-decoded : eqb (length line % 2) 1 || ltb 296 (length line) || ltb (length lent) 148 ≡ true → record { ok = false; left = lent } ≡ decodeOf line lent
+  abbrev refused : Bool
+  refused = eqb (length line % 2) 1 || ltb (length lent) (length line / 2)
+
+  pub none-decoded : refused ≡ true → record { ok = false; left = lent } ≡ decodeOf line lent
   unfolding decodeOf
   none-decoded h = rw h
 
-  module _ (h : eqb (length line % 2) 1 || ltb 296 (length line) || ltb (length lent) 148 ≡ false) where
-    pub short : length line ≤ 296
-    short = ltb-false 296 (length line) (or-right (eqb (length line % 2) 1) (ltb 296 (length line)) (or-left (eqb (length line % 2) 1 || ltb 296 (length line)) (ltb (length lent) 148) h))
+  module _ (h : refused ≡ false) where
+    pub fits : length line / 2 ≤ length lent
+    fits =
+        ltb-false (length lent) (length line / 2)
+        (or-right (eqb (length line % 2) 1) (ltb (length lent) (length line / 2)) h)
 
-    pub roomy : 148 ≤ length lent
-    roomy = ltb-false (length lent) 148 (or-right (eqb (length line % 2) 1 || ltb 296 (length line)) (ltb (length lent) 148) h)
-
-    pub fits : length line / 2 ≤ length (fill (replicate 148 0) lent)
-    fits = omega (arith, short, room 148 lent)
-
-    pub decoded : (ok : Bool) (bytes : List ℕ) → ok ≡ allDigits line → bytes ≡ fill (bytesOf line) (fill (replicate 148 0) lent) → record { ok = ok; left = bytes } ≡ decodeOf line lent
+    pub decoded : (ok : Bool) (bytes : List ℕ) → ok ≡ allDigits line → bytes ≡ fill (bytesOf line) lent
+        → record { ok = ok; left = bytes } ≡ decodeOf line lent
     unfolding decodeOf
-    decoded ok bytes e f = rw (h, e, f, over-zeros 148 lent (bytesOf line) (omega (arith, length-bytes line, short)))
+    decoded ok bytes e f = rw (h, e, f)

@@ -3,7 +3,7 @@ use mathlib.Core.Bool.{Bool, true, false, cond, _&&_, _||_}
 use mathlib.Core.List.{List, [], _∷_, _++_, map}
 use Prim.Native.Nat.{ℕ, _+_, _-_, _*_, _/_, _%_}
 use lib.Dec.{eqb, leb, ltb}
-use lib.ListN.{length, drop, replicate}
+use lib.ListN.{length, drop}
 
 -- 0 to 9, and A to F; no lower case
 abbrev pub isDecimal : ℕ → Bool
@@ -51,17 +51,13 @@ pub record Filled : Type 0 where
   pub ok : Bool
   pub left : List ℕ
 
--- a list, and zeros after it up to n places
-abbrev pub padded : ℕ → List ℕ → List ℕ
-padded n xs = xs ++ replicate (n - length xs) 0
-
--- Whether all characters are digits, with their bytes, and zeros after them, in the first 148 lent places.
--- No, and the places as they came, where the count of characters is odd or above 296, or the places are fewer than 148.
+-- Whether all characters are digits, with their bytes in the first lent places and the others as they came.
+-- No, and all places as they came, where the count of characters is odd or the places are fewer than the bytes.
 unfoldable pub decodeOf : List ℕ → List ℕ → Filled
 decodeOf line lent =
-    cond (eqb (length line % 2) 1 || ltb 296 (length line) || ltb (length lent) 148)
+    cond (eqb (length line % 2) 1 || ltb (length lent) (length line / 2))
     (record { ok = false; left = lent })
-    (record { ok = allDigits line; left = fill (padded 148 (bytesOf line)) lent })
+    (record { ok = allDigits line; left = fill (bytesOf line) lent })
 
 -- Yes, with the characters of the bytes in the first lent places, two a byte; or no, and the places as they came, where these are too few.
 unfoldable pub encodeOf : List ℕ → List ℕ → Filled

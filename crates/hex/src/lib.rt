@@ -5,7 +5,7 @@ ghost use mathlib.Core.Bool.{true, cond};
 ghost use mathlib.Core.List.{map};
 ghost use Prim.Native.Nat.{ℕ, _+_, _*_, _/_, _%_, _≤_, _<_};
 ghost use lib.Dec.{ltb};
-ghost use lib.ListN.{length, getD, take, replicate};
+ghost use lib.ListN.{length, getD, take};
 ghost use Rattle.hex.specs.Hex.{Filled, isDigit, allDigits, valueOf, bytesOf, digitOf, fill, decodeOf, encodeOf};
 ghost use Rattle.hex.specs.Steps.{nibblesOf};
 
@@ -91,15 +91,6 @@ fn any_pairs(line: &[u8], bytes: &mut [u8])
     }
 }
 
-fn zeros(bytes: &mut [u8], n: usize)
-    requires { ⌜ n ≤ length (now bytes) ⌝ }
-    ensures { λ _. ⌜ now (bytes .exit) ≡ fill (replicate n 0) (now (bytes .entry)) ⌝ }
-{
-    for i in 0..n {
-        bytes[i] = 0;
-    }
-}
-
 // What lies between the digits 9 and A, from A on. The test is signed: the machine has it for many bytes in one step, the other in two.
 fn gap(n: u8) -> u8
     requires { ⌜ n < 16 ⌝ }
@@ -119,10 +110,9 @@ pub fn decode(line: &[u8], bytes: &mut [u8]) -> bool
     ensures { λ r. ⌜ record { ok = r; left = now (bytes .exit) } ≡ decodeOf (now (line .entry)) (now (bytes .entry)) ⌝ }
 {
     let n = line.len();
-    if (n % 2 == 1) | (296 < n) | (bytes.len() < 148) {
+    if (n % 2 == 1) | (bytes.len() < n / 2) {
         return false;
     }
-    zeros(bytes, 148);
     if all_digits(line) {
         pairs(line, bytes);
         return true;

@@ -1,16 +1,35 @@
--- Document 01's numbers as labels: the other way of profile's `labelNumber` and `signsNumber`. Definitions only.
+-- The labels of a profile and document 01's numbers for them, both ways. Definitions only.
 use mathlib.Core.Bool.{cond}
 use mathlib.Core.List.{[], _∷_}
 use Prim.Native.Nat.{ℕ}
 use lib.Dec.{eqb}
 use lib.ListN.{getD}
-use Rattle.profile.specs.Check.{labels}
-use Rattle.profile.specs.declared.ReachedLimits.{ReachedLimits}
-use Rattle.profile.specs.declared.ReachedLimits.the-variants.{Acc0Acc1Vel, Vel, Acc0, Acc1, Acc0Acc1, Acc0Vel, Acc1Vel, None}
-use Rattle.profile.specs.declared.Direction.the-variants.{UP}
-use Rattle.profile.specs.declared.ControlSigns.{ControlSigns}
-use Rattle.profile.specs.declared.ControlSigns.the-variants.{UDDU, UDUD}
-use Rattle.profile.specs.declared.in_place.Labels.{Labels}
+use Rattle.labels.specs.declared.ReachedLimits.{ReachedLimits}
+use Rattle.labels.specs.declared.ReachedLimits.the-variants.{Acc0Acc1Vel, Vel, Acc0, Acc1, Acc0Acc1}
+use Rattle.labels.specs.declared.ReachedLimits.the-variants.{Acc0Vel, Acc1Vel, None}
+use Rattle.labels.specs.declared.Direction.{Direction}
+use Rattle.labels.specs.declared.Direction.the-variants.{UP, DOWN}
+use Rattle.labels.specs.declared.ControlSigns.{ControlSigns}
+use Rattle.labels.specs.declared.ControlSigns.the-variants.{UDDU, UDUD}
+use Rattle.labels.specs.declared.Labels.{Labels}
+
+abbrev pub labelNumber : ReachedLimits → ℕ
+labelNumber Acc0Acc1Vel = 0
+labelNumber Vel = 1
+labelNumber Acc0 = 2
+labelNumber Acc1 = 3
+labelNumber Acc0Acc1 = 4
+labelNumber Acc0Vel = 5
+labelNumber Acc1Vel = 6
+labelNumber None = 7
+
+abbrev pub directionNumber : Direction → ℕ
+directionNumber UP = 0
+directionNumber DOWN = 1
+
+abbrev pub signsNumber : ControlSigns → ℕ
+signsNumber UDDU = 0
+signsNumber UDUD = 1
 
 -- the label of a number from 0 to 7, in enum order; from 8 on, None
 abbrev pub labelOf : ℕ → ReachedLimits
@@ -19,6 +38,9 @@ labelOf n = getD (Acc0Acc1Vel ∷ Vel ∷ Acc0 ∷ Acc1 ∷ Acc0Acc1 ∷ Acc0Vel
 -- the signs of a number from 0 to 1; from 2 on, UDUD
 abbrev pub signsOf : ℕ → ControlSigns
 signsOf n = cond (eqb n 0) UDDU UDUD
+
+abbrev pub labels : ReachedLimits → Direction → ControlSigns → Labels
+labels l d c = record { limits = l; direction = d; «control_signs» = c }
 
 -- those of a default profile
 abbrev pub startLabels : Labels

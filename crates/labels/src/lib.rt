@@ -1,11 +1,38 @@
-// The labels of a record as document 01's numbers, and back.
-use profile::ControlSigns;
-use profile::Direction;
-use profile::ReachedLimits;
-use profile::in_place::Labels;
+// The labels of a record: which limits a move reaches, its direction and its control signs; as document 01's numbers,
+// and back.
+pub mod jerks;
+pub mod tests;
+
 ghost use mathlib.Core.Path.{_≡_};
-ghost use Rattle.profile.specs.Labels.{labelNumber, directionNumber, signsNumber};
+ghost use Rattle.labels.specs.Labels.{labelNumber, directionNumber, signsNumber};
 ghost use Rattle.labels.specs.Labels.{labelOf, signsOf, startLabels};
+
+pub enum ReachedLimits {
+    Acc0Acc1Vel,
+    Vel,
+    Acc0,
+    Acc1,
+    Acc0Acc1,
+    Acc0Vel,
+    Acc1Vel,
+    None,
+}
+
+pub enum Direction {
+    UP,
+    DOWN,
+}
+
+pub enum ControlSigns {
+    UDDU,
+    UDUD,
+}
+
+pub struct Labels {
+    pub limits: ReachedLimits,
+    pub direction: Direction,
+    pub control_signs: ControlSigns,
+}
 
 pub fn label(n: u8) -> ReachedLimits
     ensures { λ r. ⌜ r ≡ labelOf n ⌝ }

@@ -11,7 +11,7 @@ use lib.Seq.{getD-append-seam, getD-append-add}
 use lib.Ieee.{Float, nan, binary64, fits, ofBits}
 use Rattle.number_bytes.specs.Bytes.{wordOf, numberBytes}
 use Rattle.number_bytes.proofs.Eight.{number-back}
-use Rattle.profile.specs.Check.{labelsOf}
+use Rattle.profile.specs.Parts.{labelsOf}
 use Rattle.profile.specs.declared.Profile.{Profile}
 use Rattle.profile.specs.declared.Checked.{Checked}
 use Rattle.line_frame.specs.Frame.{byteAt, wordAt, numberAt}

@@ -7,12 +7,12 @@ use lib.Ieee.{ofBits, toBits, lt, le, eq, neg, add, sub, mul, div}
 use Rattle.float.specs.Helpers.{absOf}
 use Rattle.util.specs.Integrate.{integrateOf}
 use Rattle.sqrt.specs.Sqrt.{sqrtOf}
-use Rattle.profile.specs.Labels.{testsOf}
-use Rattle.profile.specs.Signs.{jerksOf}
-use Rattle.profile.specs.Run.{run}
-use Rattle.profile.specs.Times.{sumStep, sumsOf, refusedOf}
-use Rattle.profile.specs.Limit.{bandOf}
-use Rattle.profile.specs.Phase.{replacedOf, zeroInsideOf, nodeOf, phaseOf}
+use Rattle.labels.specs.Tests.{testsOf}
+use Rattle.labels.specs.Jerks.{jerksOf}
+use Rattle.phases.specs.Run.{run}
+use Rattle.phases.specs.Times.{sumStep, sumsOf, refusedOf}
+use Rattle.phases.specs.Limit.{bandOf}
+use Rattle.phases.specs.Phase.{replacedOf, zeroInsideOf, nodeOf, phaseOf}
 use Rattle.profile.specs.Check.{arrivedOf, keptOf, checkOf}
 use Rattle.profile.specs.Boundary.{boundaryOf}
 use Rattle.rounding.specs.Exact.{Size}

@@ -1,1 +1,3 @@
+-- Laws of the numbers of a frame.
 pub mod Numbers
+pub mod Finite

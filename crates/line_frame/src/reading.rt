@@ -1,13 +1,17 @@
 // Numbers out of a frame's bytes.
 use float::from_bits;
+use line_kinds::FRAME;
 use number_bytes::finite_bits;
 use number_bytes::u64_from_be_bytes;
 ghost use mathlib.Core.Path.{_≡_};
+ghost use mathlib.Core.Bool.{true};
 ghost use Prim.Native.Nat.{_+_, _*_, _≤_};
+ghost use lib.Ieee.Scale.{finite};
+ghost use Rattle.line_kinds.specs.Kinds.{frameMost};
 ghost use Rattle.line_frame.specs.Frame.{byteAt, wordAt, numberAt, numbersAt, allFinite};
 
-fn word_at(frame: &[u8; 148], at: usize) -> u64
-    requires { ⌜ at + 8 ≤ 148 ⌝ }
+fn word_at(frame: &[u8; FRAME], at: usize) -> u64
+    requires { ⌜ at + 8 ≤ frameMost ⌝ }
     ensures { λ r. ⌜ r ≡ wordAt (byteAt (now (frame .entry))) at ⌝ }
 {
     u64_from_be_bytes([
@@ -22,15 +26,24 @@ fn word_at(frame: &[u8; 148], at: usize) -> u64
     ])
 }
 
-pub fn number_at(frame: &[u8; 148], at: usize) -> f64
-    requires { ⌜ at + 8 ≤ 148 ⌝ }
+pub fn number_at(frame: &[u8; FRAME], at: usize) -> f64
+    requires { ⌜ at + 8 ≤ frameMost ⌝ }
     ensures { λ r. ⌜ r ≡ numberAt (byteAt (now (frame .entry))) at ⌝ }
 {
     from_bits(word_at(frame, at))
 }
 
+// The same for a number that is known to be finite: no test for a NaN.
+pub fn finite_at(frame: &[u8; FRAME], at: usize) -> f64
+    requires { ⌜ at + 8 ≤ frameMost ⌝ }
+    requires { ⌜ finite (numberAt (byteAt (now frame)) at) ≡ true ⌝ }
+    ensures { λ r. ⌜ r ≡ numberAt (byteAt (now (frame .entry))) at ⌝ }
+{
+    f64::from_bits(word_at(frame, at))
+}
+
 // Kind 00's times.
-pub fn times(frame: &[u8; 148]) -> [f64; 7]
+pub fn times(frame: &[u8; FRAME]) -> [f64; 7]
     ensures { λ r. ⌜ r ≡ numbersAt (byteAt (now (frame .entry))) 4 7 ⌝ }
 {
     [
@@ -45,8 +58,8 @@ pub fn times(frame: &[u8; 148]) -> [f64; 7]
 }
 
 // Whether n numbers from a place on are finite.
-pub fn all_finite(frame: &[u8; 148], at: usize, n: usize) -> bool
-    requires { ⌜ at + 8 * n ≤ 148 ⌝ }
+pub fn all_finite(frame: &[u8; FRAME], at: usize, n: usize) -> bool
+    requires { ⌜ at + 8 * n ≤ frameMost ⌝ }
     ensures { λ r. ⌜ r ≡ allFinite (numbersAt (byteAt (now (frame .entry))) at n) ⌝ }
 {
     let mut ok = true;

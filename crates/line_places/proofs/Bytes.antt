@@ -10,13 +10,13 @@ use lib.Ieee.{Float, nan, binary64, toBits}
 use Rattle.hex.specs.Hex.{allDigits, hexOf}
 use Rattle.hex.proofs.Laws.{all-digits}
 use Rattle.number_bytes.specs.Bytes.{wordBytes, numberBytes}
-use Rattle.profile.specs.Labels.{labelNumber, directionNumber, signsNumber}
-use Rattle.profile.specs.declared.ReachedLimits.{ReachedLimits}
-use Rattle.profile.specs.declared.ReachedLimits.the-variants.{Acc0Acc1Vel, Vel, Acc0, Acc1, Acc0Acc1, Acc0Vel, Acc1Vel, None}
-use Rattle.profile.specs.declared.Direction.{Direction}
-use Rattle.profile.specs.declared.Direction.the-variants.{UP, DOWN}
-use Rattle.profile.specs.declared.ControlSigns.{ControlSigns}
-use Rattle.profile.specs.declared.ControlSigns.the-variants.{UDDU, UDUD}
+use Rattle.labels.specs.Labels.{labelNumber, directionNumber, signsNumber}
+use Rattle.labels.specs.declared.ReachedLimits.{ReachedLimits}
+use Rattle.labels.specs.declared.ReachedLimits.the-variants.{Acc0Acc1Vel, Vel, Acc0, Acc1, Acc0Acc1, Acc0Vel, Acc1Vel, None}
+use Rattle.labels.specs.declared.Direction.{Direction}
+use Rattle.labels.specs.declared.Direction.the-variants.{UP, DOWN}
+use Rattle.labels.specs.declared.ControlSigns.{ControlSigns}
+use Rattle.labels.specs.declared.ControlSigns.the-variants.{UDDU, UDUD}
 use Rattle.profile.specs.declared.Checked.{Checked}
 use Rattle.roots.specs.declared.Need.{Need}
 use Rattle.roots.specs.declared.Need.the-variants.{Nothing, Cube, Resolvent}

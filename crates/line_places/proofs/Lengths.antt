@@ -6,21 +6,22 @@ use Prim.Native.Nat.{ℕ, zero, suc, _+_}
 use lib.ListN.{length, getD, set, length-set}
 use lib.Ieee.{Float, nan, lt}
 use Rattle.float.specs.Ops.{_⊕_, #0}
-use Rattle.profile.specs.declared.ReachedLimits.{ReachedLimits}
-use Rattle.profile.specs.declared.ControlSigns.{ControlSigns}
+use Rattle.labels.specs.declared.ReachedLimits.{ReachedLimits}
+use Rattle.labels.specs.declared.ControlSigns.{ControlSigns}
 use Rattle.profile.specs.declared.Profile.{Profile}
 use Rattle.profile.specs.declared.Checked.{Checked}
-use Rattle.profile.specs.declared.tests.Tests.{Tests}
-use Rattle.profile.specs.declared.limit.Band.{Band}
+use Rattle.labels.specs.declared.tests.Tests.{Tests}
+use Rattle.phases.specs.declared.limit.Band.{Band}
 use Rattle.profile.specs.declared.in_place.Goal.{Goal}
-use Rattle.profile.specs.declared.in_place.Labels.{Labels}
-use Rattle.profile.specs.Run.{Step, run, yes!, no! }
-use Rattle.profile.specs.Labels.{testsOf}
-use Rattle.profile.specs.Signs.{jerksOf}
-use Rattle.profile.specs.Times.{sumStep, sumsOf, refusedOf}
-use Rattle.profile.specs.Limit.{bandOf}
-use Rattle.profile.specs.Phase.{Nodes, nodeOf, phaseOf}
-use Rattle.profile.specs.Check.{profileOf, nodesOf, checkOf}
+use Rattle.labels.specs.declared.Labels.{Labels}
+use Rattle.phases.specs.Run.{Step, run, yes!, no! }
+use Rattle.labels.specs.Tests.{testsOf}
+use Rattle.labels.specs.Jerks.{jerksOf}
+use Rattle.phases.specs.Times.{sumStep, sumsOf, refusedOf}
+use Rattle.phases.specs.Limit.{bandOf}
+use Rattle.phases.specs.Phase.{Nodes, nodeOf, phaseOf}
+use Rattle.profile.specs.Parts.{profileOf, nodesOf}
+use Rattle.profile.specs.Check.{checkOf}
 use Rattle.roots.specs.declared.RootAnswer.{RootAnswer}
 use Rattle.step2_solver.specs.declared.Times.{Times}
 use Rattle.step2_solver.specs.declared.PositionThirdOrderStep2.{PositionThirdOrderStep2}

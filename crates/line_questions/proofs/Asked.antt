@@ -1,38 +1,50 @@
--- The questions to a frame, from the third on: the number of the first with a no, from what each test on the way there says. Assumes nothing.
+-- The first question with a no, over any list of questions: where the first ones were answered yes, the rest decides; and where
+-- none was answered no, each was answered yes. Assumes nothing.
 use mathlib.Core.Path.{_≡_, refl}
-use mathlib.Core.Bool.{true, false}
-use Prim.Native.Nat.{ℕ, _≤_, _<_}
-use borrow.Author.Tests.{eq-eqb, ne-eqb, le-leb, lt-leb}
-use Rattle.line_frame.specs.Frame.{Frame}
-use Rattle.line_questions.specs.Kinds.{frameBytes, replyPlaces}
-use Rattle.line_questions.specs.Questions.{bytesFit, numbersFit, countsFit, firstNo, frameQuestions}
+use mathlib.Core.Bool.{Bool, true, false, cond}
+use mathlib.Core.List.{List, [], _∷_, _++_}
+use Prim.Native.Nat.{ℕ}
+use Rattle.line_questions.specs.Questions.{Question, ask, firstNo}
 
-module _ (at : Frame) (n p : ℕ) (w : ℕ) (ew : w ≡ frameBytes (at 0)) where
-  abbrev number : ℕ
-  number = firstNo (frameQuestions at n p)
+-- every question of a list was answered yes; and has a number, which is not 0
+abbrev pub AllYes : List Question → Type 0
+AllYes [] = Unit {0}
+AllYes (q ∷ qs) = (q .yes ≡ true) × AllYes qs
 
-  pub third : w ≡ 0 → 3 ≡ number
-  third h = rw (← ew, eq-eqb w 0 h)
+abbrev pub Numbered : List Question → Type 0
+Numbered [] = Unit {0}
+Numbered (q ∷ qs) = (q .number ≡ 0 → ⊥) × Numbered qs
 
-  module _ (h3 : w ≡ 0 → ⊥) where
-    pub fourth : (n ≡ w → ⊥) → 4 ≡ number
-    fourth h = rw (← ew, ne-eqb w 0 h3, ne-eqb n w h)
+-- the first k were answered yes: the rest decides
+pub past : (first rest : List Question) → AllYes first → firstNo (first ++ rest) ≡ firstNo rest
+past [] rest h = refl
+past (q ∷ first) rest h = rw (h .0) (past first rest (h .1))
 
-    module _ (h4 : n ≡ w) where
-      pub fifth : bytesFit at ≡ false → 5 ≡ number
-      fifth h = rw (← ew, ne-eqb w 0 h3, eq-eqb n w h4, h)
+-- and the next gets a no: it has its number
+pub stops : (first : List Question) (n : ℕ) (rest : List Question) {b : Bool} → AllYes first → b ≡ false
+    → firstNo (first ++ (ask n b ∷ rest)) ≡ n
+stops [] n rest h e = rw e
+stops (q ∷ first) n rest h e = rw (h .0) (stops first n rest (h .1) e)
 
-      module _ (h5 : bytesFit at ≡ true) where
-        pub sixth : numbersFit at ≡ false → 6 ≡ number
-        sixth h = rw (← ew, ne-eqb w 0 h3, eq-eqb n w h4, h5, h)
+-- all of them: 0
+pub none : (qs : List Question) → AllYes qs → firstNo qs ≡ 0
+none [] h = refl
+none (q ∷ qs) h = rw (h .0) (none qs (h .1))
 
-        module _ (h6 : numbersFit at ≡ true) where
-          pub seventh : countsFit at ≡ false → 7 ≡ number
-          seventh h = rw (← ew, ne-eqb w 0 h3, eq-eqb n w h4, h5, h6, h)
+-- 0 says that all were answered yes
+pub all-yes : (qs : List Question) → Numbered qs → firstNo qs ≡ 0 → AllYes qs
+all-yes [] n e = tt
+all-yes (q ∷ qs) n e = by (q .yes) refl e (all-yes qs (n .1))
+  where
+    by : (b : Bool) → q .yes ≡ b → cond b (firstNo qs) (q .number) ≡ 0 → (firstNo qs ≡ 0 → AllYes qs) → AllYes (q ∷ qs)
+    by true h e rest = (h, rest e)
+    by false h e rest = absurd (n .0 e)
 
-          module _ (h7 : countsFit at ≡ true) (r : ℕ) (er : r ≡ replyPlaces (at 0)) where
-            pub eighth : p < r → 8 ≡ number
-            eighth h = rw (← ew, ne-eqb w 0 h3, eq-eqb n w h4, h5, h6, h7, ← er, lt-leb r p h)
+-- of two lists one after the other
+pub all-first : (first rest : List Question) → AllYes (first ++ rest) → AllYes first
+all-first [] rest h = tt
+all-first (q ∷ first) rest h = (h .0, all-first first rest (h .1))
 
-            pub none : r ≤ p → 0 ≡ number
-            none h = rw (← ew, ne-eqb w 0 h3, eq-eqb n w h4, h5, h6, h7, ← er, le-leb r p h)
+pub all-rest : (first rest : List Question) → AllYes (first ++ rest) → AllYes rest
+all-rest [] rest h = h
+all-rest (q ∷ first) rest h = all-rest first rest (h .1)

@@ -1,3 +1,2 @@
-pub mod Kinds
-pub mod Quartics
+pub mod Suits
 pub mod Questions

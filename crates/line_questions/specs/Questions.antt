@@ -1,47 +1,60 @@
--- Document 01's questions to a line, in order. Definitions only.
-use mathlib.Core.Bool.{Bool, true, false, cond, not, _&&_, _||_}
-use mathlib.Core.List.{List, [], _∷_}
+-- The questions to a line, in order, and which of them each kind is asked. Definitions only.
+-- A question that a kind has nothing to ask about is not asked. One that a later kind brings stands in that kind's list alone.
+use mathlib.Core.Bool.{Bool, true, false, cond, not, _&&_}
+use mathlib.Core.List.{List, [], _∷_, _++_}
 use Prim.Native.Nat.{ℕ, _%_}
 use lib.Dec.{eqb, leb}
 use lib.ListN.{length}
 use Rattle.hex.specs.Hex.{allDigits, bytesOf}
-use Rattle.line_frame.specs.Frame.{Frame, byteAt, numbersAt, allFinite}
-use Rattle.line_questions.specs.Kinds.{frameBytes, replyPlaces}
-use Rattle.line_questions.specs.Quartics.{bothSuit}
+use Rattle.step2_solver.specs.declared.Shape.{Shape}
+use Rattle.step2_solver.specs.New.{solverOf, limitsOf}
+use Rattle.step2_solver_quartic.specs.declared.Quartics.{Quartics}
+use Rattle.step2_solver_quartic.specs.Quartics.{quarticsOf}
+use Rattle.line_kinds.specs.declared.Asks.{Asks}
+use Rattle.line_kinds.specs.declared.Asks.the-variants.{NoKind, OfCheck, OfShape, OfQuartics}
+use Rattle.line_kinds.specs.declared.Row.{Row}
+use Rattle.line_kinds.specs.Kinds.{takesRoots, lineMost, rowOf}
+use Rattle.line_frame.specs.Frame.{Frame, byteAt}
+use Rattle.line_frame.specs.Numbers.{moveOf, checkFinite, moveFinite}
+use Rattle.line_questions.specs.Suits.{bothSuit}
 
--- 1. The count of characters is even, from 2 to 296.
-abbrev pub countFits : ℕ → Bool
-countFits n = eqb (n % 2) 0 && leb 2 n && leb n 296
+-- ---- the questions
+-- 1. The count of characters is even, from 2 to the longest line's.
+abbrev pub lengthFits : ℕ → Bool
+lengthFits n = eqb (n % 2) 0 && leb 2 n && leb n lineMost
 
 -- 2. All characters are digits: `allDigits`.
 
 -- 3. There is such a kind.
-abbrev pub isKind : Frame → Bool
-isKind at = not (eqb (frameBytes (at 0)) 0)
+abbrev pub isKind : Row → Bool
+isKind row = not (eqb (row .bytes) 0)
 
 -- 4. The length, in bytes, is that of the kind.
-abbrev pub lengthFits : ℕ → Frame → Bool
-lengthFits n at = eqb n (frameBytes (at 0))
+abbrev pub bytesFit : ℕ → Row → Bool
+bytesFit n row = eqb n (row .bytes)
 
--- 5. Kind 00: signs 0 to 1, label 0 to 7, set_limits 0 to 1. Kinds 02 and 03: both counts 0 to 3.
-unfoldable pub bytesFit : Frame → Bool
-bytesFit at =
-    cond (eqb (at 0) 0x00) (leb (at 1) 1 && leb (at 2) 7 && leb (at 3) 1)
-    (cond (eqb (at 0) 0x02 || eqb (at 0) 0x03) (leb (at 97) 3 && leb (at 122) 3) true)
+-- 5. Kind 00: signs 0 to 1, label 0 to 7, set_limits 0 to 1. A shape with root answers: both counts 0 to 3.
+abbrev pub choicesFit : Frame → Bool
+choicesFit at = leb (at 1) 1 && leb (at 2) 7 && leb (at 3) 1
 
--- 6. All numbers are finite, but kind 00's times and the root answers: eleven after the times, or twelve after the kind.
-unfoldable pub numbersFit : Frame → Bool
-numbersFit at = cond (eqb (at 0) 0x00) (allFinite (numbersAt at 60 11)) (allFinite (numbersAt at 1 12))
+unfoldable pub countsFit : Shape → Frame → Bool
+countsFit shape at = cond (takesRoots shape) (leb (at 97) 3 && leb (at 122) 3) true
 
--- 7. Kinds 02 and 03: each count suits its quartic. Both are tested, also where the Rust stops earlier.
-unfoldable pub countsFit : Frame → Bool
-countsFit at = cond (eqb (at 0) 0x02 || eqb (at 0) 0x03) (bothSuit at) true
+-- 6. All numbers are finite, but kind 00's times and the root answers: `checkFinite`, `moveFinite`.
+
+-- 7. A shape with root answers: each count suits its quartic. Both are tested, also where the Rust stops earlier.
+unfoldable pub countsSuit : Shape → Quartics → Frame → Bool
+countsSuit shape q at = cond (takesRoots shape) (bothSuit q (at 97) (at 122)) true
+
+-- the quartics of a shape, for the twelve numbers of a frame
+abbrev pub quarticsAt : Shape → Frame → Quartics
+quarticsAt shape at = quarticsOf shape (solverOf (moveOf at)) (limitsOf (moveOf at))
 
 -- 8. The lent places are enough for the reply.
-abbrev pub placesFit : Frame → ℕ → Bool
-placesFit at n = leb (replyPlaces (at 0)) n
+abbrev pub placesFit : Row → ℕ → Bool
+placesFit row p = leb (row .places) p
 
--- a question's number, and whether the answer to it is yes
+-- ---- a question's number, and whether the answer to it is yes
 pub record Question : Type 0 where
   pub number : ℕ
   pub yes : Bool
@@ -54,19 +67,29 @@ abbrev pub firstNo : List Question → ℕ
 firstNo [] = 0
 firstNo (q ∷ qs) = cond (q .yes) (firstNo qs) (q .number)
 
--- the questions that a frame of n bytes is asked, where p places are lent
-abbrev pub frameQuestions : Frame → ℕ → ℕ → List Question
-frameQuestions at n p =
-    ask 3 (isKind at)
-    ∷ ask 4 (lengthFits n at)
-    ∷ ask 5 (bytesFit at)
-    ∷ ask 6 (numbersFit at)
-    ∷ ask 7 (countsFit at)
-    ∷ ask 8 (placesFit at p)
+-- ---- who is asked what
+-- what each kind is asked of its frame, between the length and the places
+unfoldable pub questionsOf : Asks → Frame → List Question
+questionsOf NoKind at = []
+questionsOf OfCheck at = ask 5 (choicesFit at) ∷ ask 6 (checkFinite at) ∷ []
+questionsOf (OfShape shape) at =
+    ask 5 (countsFit shape at) ∷ ask 6 (moveFinite at) ∷ ask 7 (countsSuit shape (quarticsAt shape at) at) ∷ []
+questionsOf (OfQuartics shape) at = ask 6 (moveFinite at) ∷ []
+
+-- a line where p places are lent
+abbrev pub lineQuestions : List ℕ → Row → List Question
+lineQuestions line row =
+    ask 1 (lengthFits (length line))
+    ∷ ask 2 (allDigits line)
+    ∷ ask 3 (isKind row)
+    ∷ ask 4 (bytesFit (length (bytesOf line)) row)
     ∷ []
+
+abbrev pub frameQuestions : Frame → Row → ℕ → List Question
+frameQuestions at row p = questionsOf (row .asks) at ++ (ask 8 (placesFit row p) ∷ [])
 
 abbrev pub questions : List ℕ → ℕ → List Question
 questions line p =
-    ask 1 (countFits (length line))
-    ∷ ask 2 (allDigits line)
-    ∷ frameQuestions (byteAt (bytesOf line)) (length (bytesOf line)) p
+    let at = byteAt (bytesOf line) in
+    let row = rowOf (at 0) in
+    lineQuestions line row ++ frameQuestions at row p

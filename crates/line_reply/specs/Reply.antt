@@ -7,8 +7,8 @@ use lib.ListN.{length, getD}
 use lib.Ieee.{Float, nan}
 use Rattle.hex.specs.Hex.{Filled, hexOf, fill}
 use Rattle.number_bytes.specs.Bytes.{numberBytes}
-use Rattle.profile.specs.Labels.{labelNumber, directionNumber, signsNumber}
-use Rattle.profile.specs.Check.{labelsOf}
+use Rattle.labels.specs.Labels.{labelNumber, directionNumber, signsNumber}
+use Rattle.profile.specs.Parts.{labelsOf}
 use Rattle.profile.specs.declared.Profile.{Profile}
 use Rattle.profile.specs.declared.in_place.Answer.{Answer}
 use Rattle.profile.specs.declared.Checked.{Checked}

@@ -9,35 +9,24 @@ use lib.Dec.{eqb, leb, lit≤}
 use lib.ListN.{length, take, replicate, length-append, length-take}
 use lib.Seq.{take-at}
 use borrow.Author.Tests.{ne-eqb, le-leb}
-use Rattle.hex.specs.Hex.{bytesOf}
-use Rattle.line_frame.specs.Frame.{Frame, byteAt}
-use Rattle.line_questions.specs.Kinds.{replyPlaces}
+use Rattle.line_kinds.specs.Kinds.{replyMost, rowOf}
+use Rattle.line_kinds.proofs.Rows.{sound}
 use Rattle.line_questions.specs.Questions.{placesFit}
-use Rattle.line_questions.proofs.KindRows.{place-rows}
-use Rattle.lines.specs.Answer.{answerOf}
-use Rattle.line_places.specs.Exactly.{kindOf, replyTo, FilledExactly}
-use Rattle.line_places.proofs.Places.{after-a-reply}
-use Rattle.line_stream.specs.Answered.{Answered, answeredOf}
-use Rattle.line_stream.specs.Output.{replyMost, answerMost, twoDigits, textOf, lineOutput}
+use Rattle.lines.specs.Answer.{repliedOf, answerOf, Outcome, outcomeOf}
+use Rattle.line_places.specs.Exactly.{kindOf, replyTo}
+use Rattle.line_stream.specs.Output.{answerMost, twoDigits, textOf, lineOutput}
+use Rattle.line_stream.proofs.Replies.{reply-first, reply-exact}
 
 -- ---- the most places
-pub places-most : (n : ℕ) → replyPlaces n ≤ replyMost
-places-most n = rw (place-rows n) (by (leb n 5) (leb n 7))
-  where
-    by : (a b : Bool) → cond a 728 (cond b 228 0) ≤ replyMost
-    by true b = omega arith
-    by false true = omega arith
-    by false false = omega arith
-
-pub filled-most : (line lent : List ℕ) → answeredOf line lent .filled ≤ replyMost
-unfolding answeredOf
+pub filled-most : (line lent : List ℕ) → outcomeOf line lent .filled ≤ replyMost
+unfolding outcomeOf
 filled-most line lent = by (eqb (answerOf line lent .number) 0)
   where
-    by : (b : Bool) → cond b (replyPlaces (kindOf line)) 0 ≤ replyMost
-    by true = places-most (kindOf line)
+    by : (b : Bool) → cond b (rowOf (kindOf line) .places) 0 ≤ replyMost
+    by true = sound (kindOf line) .2
     by false = omega arith
 
-text-most : (a : Answered) → a .filled ≤ replyMost → length (textOf a) ≤ replyMost
+text-most : (a : Outcome) → a .filled ≤ replyMost → length (textOf a) ≤ replyMost
 text-most a h = by (eqb (a .number) 0)
   where
     by : (b : Bool) → length (cond b (take (a .filled) (a .places)) (twoDigits (a .number))) ≤ replyMost
@@ -47,7 +36,7 @@ text-most a h = by (eqb (a .number) 0)
 pub output-most : (line : List ℕ) → length (lineOutput line) ≤ answerMost
 unfolding lineOutput
 output-most line =
-    let a : Answered = answeredOf line (replicate replyMost 0) in
+    let a : Outcome = outcomeOf line (replicate replyMost 0) in
     rw (length-append (textOf a) (10 ∷ []))
     (more (length (textOf a)) (text-most a (filled-most line (replicate replyMost 0))))
   where
@@ -56,31 +45,29 @@ output-most line =
 
 -- ---- the number, whatever is lent
 -- question 8 is answered yes
-enough : (at : Frame) (p : ℕ) → replyMost ≤ p → placesFit at p ≡ true
-enough at p h = le-leb (replyPlaces (at 0)) p (within (replyPlaces (at 0)) (places-most (at 0)))
+enough : (n p : ℕ) → replyMost ≤ p → placesFit (rowOf n) p ≡ true
+enough n p h = le-leb (rowOf n .places) p (within (rowOf n .places) (sound n .2))
   where
     within : (r : ℕ) → r ≤ replyMost → r ≤ p
     within r l = omega arith
 
 same-number : (line lent other : List ℕ) → replyMost ≤ length lent → replyMost ≤ length other
     → answerOf line lent .number ≡ answerOf line other .number
-unfolding answerOf
-same-number line lent other h k =
-    let at : Frame = byteAt (bytesOf line) in
-    rw (enough at (length lent) h, enough at (length other) k)
+unfolding answerOf repliedOf
+same-number line lent other h k = rw (enough (kindOf line) (length lent) h, enough (kindOf line) (length other) k)
 
 zeros-enough : replyMost ≤ length {A = ℕ} (replicate replyMost 0)
 zeros-enough = lit≤ tt
 
 -- ---- the text
-text-number : (a : Answered) (n : ℕ) → a .number ≡ n → (n ≡ 0 → ⊥) → textOf a ≡ twoDigits n
+text-number : (a : Outcome) (n : ℕ) → a .number ≡ n → (n ≡ 0 → ⊥) → textOf a ≡ twoDigits n
 text-number a n e z = rw (e, ne-eqb n 0 z)
 
-reply-text : (line lent : List ℕ) → answerOf line lent .number ≡ 0 → textOf (answeredOf line lent) ≡ replyTo line
-unfolding answeredOf
+reply-text : (line lent : List ℕ) → answerOf line lent .number ≡ 0 → textOf (outcomeOf line lent) ≡ replyTo line
+unfolding outcomeOf
 reply-text line lent said =
-    let f : FilledExactly line lent = after-a-reply line lent said in
-    rw (said, f .first, ← f .exactly) (take-at (replyTo line) _ (length (replyTo line)) refl)
+    rw (said, reply-first line lent said, ← reply-exact line lent said)
+    (take-at (replyTo line) _ (length (replyTo line)) refl)
 
 module _ (line lent : List ℕ) (h : replyMost ≤ length lent) where
   zeros-number : answerOf line (replicate replyMost 0) .number ≡ answerOf line lent .number
@@ -93,7 +80,7 @@ module _ (line lent : List ℕ) (h : replyMost ≤ length lent) where
 
   pub output-number : (n : ℕ) → answerOf line lent .number ≡ n → (n ≡ 0 → ⊥)
       → lineOutput line ≡ twoDigits n ++ (10 ∷ [])
-  unfolding lineOutput answeredOf
+  unfolding lineOutput outcomeOf
   output-number n e z =
       ap (λ (l : List ℕ). l ++ (10 ∷ []))
-      (text-number (answeredOf line (replicate replyMost 0)) n (zeros-number ∙ e) z)
+      (text-number (outcomeOf line (replicate replyMost 0)) n (zeros-number ∙ e) z)

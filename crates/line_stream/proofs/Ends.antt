@@ -2,7 +2,8 @@
 use mathlib.Core.Path.{_≡_, refl, _∙_}
 use mathlib.Core.List.{[], _∷_, append-nil}
 use lib.ListN.{replicate}
-use Rattle.line_stream.specs.Output.{replyMost, lineOutput, outputOf}
+use Rattle.line_kinds.specs.Kinds.{replyMost}
+use Rattle.line_stream.specs.Output.{lineOutput, outputOf}
 use Rattle.line_stream.proofs.FirstQuestion.{empty}
 use Rattle.line_stream.proofs.Whole.{first-refusal}
 

@@ -6,11 +6,11 @@ use Prim.Native.Nat.{ℕ, _%_, _<_}
 use lib.Dec.{eqb, leb}
 use lib.ListN.{length}
 use borrow.Author.Tests.{lt-leb}
-use Rattle.line_questions.specs.Questions.{countFits}
-use Rattle.lines.specs.Answer.{answerOf}
-use Rattle.line_stream.specs.Output.{lineMost}
+use Rattle.line_kinds.specs.Kinds.{lineMost}
+use Rattle.line_questions.specs.Questions.{lengthFits}
+use Rattle.lines.specs.Answer.{repliedOf, answerOf}
 
-long : (n : ℕ) → lineMost < n → countFits n ≡ false
+long : (n : ℕ) → lineMost < n → lengthFits n ≡ false
 long n h = rw (lt-leb n lineMost h) (by (eqb (n % 2) 0 && leb 2 n))
   where
     by : (b : Bool) → b && false ≡ false
@@ -18,9 +18,9 @@ long n h = rw (lt-leb n lineMost h) (by (eqb (n % 2) 0 && leb 2 n))
     by false = refl
 
 pub too-long : (line lent : List ℕ) → lineMost < length line → answerOf line lent .number ≡ 1
-unfolding answerOf
+unfolding answerOf repliedOf
 too-long line lent h = rw (long (length line) h)
 
 pub empty : (lent : List ℕ) → answerOf [] lent .number ≡ 1
-unfolding answerOf
+unfolding answerOf repliedOf
 empty lent = refl

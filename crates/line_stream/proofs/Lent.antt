@@ -5,14 +5,13 @@ use Prim.Native.Nat.{ℕ, suc, _+_, _-_, _≤_}
 use native.Mathlib.Omega.{arith}
 use lib.ListN.{length, take, drop, set, length-drop, take-append-drop, drop-of-length-le}
 use lib.Seq.{sets, sets-eq, take-all, drop-drop}
-use Rattle.line_questions.specs.Kinds.{replyPlaces}
-use Rattle.lines.specs.Answer.{answerOf}
-use Rattle.line_places.specs.Exactly.{kindOf, replyTo, FilledExactly}
-use Rattle.line_places.proofs.Places.{after-a-number, after-a-reply}
+use Rattle.line_kinds.specs.Kinds.{replyMost, rowOf}
+use Rattle.lines.specs.Answer.{answerOf, Outcome, outcomeOf}
+use Rattle.line_places.specs.Exactly.{kindOf, replyTo}
 use Rattle.line_cut.specs.Cut.{Put}
 use Rattle.line_cut.proofs.Copies.{put-last}
-use Rattle.line_stream.specs.Answered.{Answered, answeredOf}
-use Rattle.line_stream.specs.Output.{replyMost, answerMost, twoDigits, lineOutput}
+use Rattle.line_stream.specs.Output.{answerMost, twoDigits, lineOutput}
+use Rattle.line_stream.proofs.Replies.{as-came, reply-first, reply-exact}
 use Rattle.line_stream.proofs.Answers.{filled-most, output-reply, output-number}
 
 -- three characters, one store each
@@ -54,24 +53,24 @@ back-reply out reply at h =
     (sym (append-assoc (take at out) reply _))
 
 module _ (line out places : List ℕ) (at n m : ℕ) (h : at + answerMost ≤ length out)
-    (e : record { number = n; filled = m; places = places } ≡ answeredOf line (from out at)) where
+    (e : record { number = n; filled = m; places = places } ≡ outcomeOf line (from out at)) where
   abbrev lent : List ℕ
   lent = from out at
 
   number-is : answerOf line lent .number ≡ n
-  unfolding answeredOf
-  number-is = sym (ap (λ (a : Answered). a .number) e)
+  unfolding outcomeOf
+  number-is = sym (ap (λ (a : Outcome). a .number) e)
 
   places-are : places ≡ answerOf line lent .places
-  unfolding answeredOf
-  places-are = ap (λ (a : Answered). a .places) e
+  unfolding outcomeOf
+  places-are = ap (λ (a : Outcome). a .places) e
 
   pub filled-few : m ≤ replyMost
-  filled-few = rw (ap (λ (a : Answered). a .filled) e) (filled-most line lent)
+  filled-few = rw (ap (λ (a : Outcome). a .filled) e) (filled-most line lent)
 
-  filled-is : answerOf line lent .number ≡ 0 → m ≡ replyPlaces (kindOf line)
-  unfolding answeredOf
-  filled-is z = ap (λ (a : Answered). a .filled) e ∙ rw z
+  filled-is : answerOf line lent .number ≡ 0 → m ≡ rowOf (kindOf line) .places
+  unfolding outcomeOf
+  filled-is z = ap (λ (a : Outcome). a .filled) e ∙ rw z
 
   room : replyMost ≤ length lent
   room = rw (from-length out at) (omega arith)
@@ -79,12 +78,10 @@ module _ (line out places : List ℕ) (at n m : ℕ) (h : at + answerMost ≤ le
   pub replied : n ≡ 0 → Put out at (lineOutput line) (at + m + 1) (set (back out at places) (at + m) 10)
   replied z =
       let said : answerOf line lent .number ≡ 0 = number-is ∙ z in
-      let f : FilledExactly line lent = after-a-reply line lent said in
-      let l : m ≡ length (replyTo line) = filled-is said ∙ sym (f .exactly) in
+      let l : m ≡ length (replyTo line) = filled-is said ∙ sym (reply-exact line lent said) in
       let w : m ≤ replyMost = filled-few in
       let b : at + length (replyTo line) ≤ length out = omega arith in
-      let p : places ≡ replyTo line ++ drop (length (replyTo line)) lent =
-      places-are ∙ f .first ∙ ap (λ (k : ℕ). replyTo line ++ drop k lent) (sym (f .exactly)) in
+      let p : places ≡ replyTo line ++ drop (length (replyTo line)) lent = places-are ∙ reply-first line lent said in
       rw (l, output-reply line lent room said)
       (put-last out (replyTo line) (back out at places) at 10
       (ap (back out at) p ∙ back-reply out (replyTo line) at b))
@@ -95,5 +92,5 @@ module _ (line out places : List ℕ) (at n m : ℕ) (h : at + answerMost ≤ le
   refused z end left p =
       let said : answerOf line lent .number ≡ 0 → ⊥ = λ s. z (sym number-is ∙ s) in
       let b : back out at places ≡ out =
-      ap (back out at) (places-are ∙ after-a-number line lent said) ∙ back-same out at in
+      ap (back out at) (places-are ∙ as-came line lent said) ∙ back-same out at in
       rw (output-number line lent room n number-is z) (rw b at p)

@@ -1,5 +1,5 @@
 -- The answers of the line entry as a stream of lines: what they are, whatever places are lent, and how long they are.
-pub mod Guessed
+pub mod Replies
 pub mod Answers
 pub mod Lent
 pub mod Ending

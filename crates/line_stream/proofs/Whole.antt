@@ -10,20 +10,20 @@ use lib.Dec.{leb}
 use lib.ListN.{length, take, replicate}
 use lib.Seq.{take-all, length-take-le}
 use borrow.Author.Tests.{leb-true, leb-false}
-use Rattle.lines.specs.Answer.{answerOf}
+use Rattle.line_kinds.specs.Kinds.{lineMost, replyMost}
+use Rattle.lines.specs.Answer.{answerOf, Outcome, outcomeOf}
 use Rattle.line_cut.specs.Stream.{LineAnswer, keptMost, Calls, Holds}
 use Rattle.line_cut.proofs.Whole as any
-use Rattle.line_stream.specs.Answered.{Answered, answeredOf}
-use Rattle.line_stream.specs.Output.{lineMost, replyMost, textOf, lineOutput, lineWay, outputOf, lastOutput}
+use Rattle.line_stream.specs.Output.{textOf, lineOutput, lineWay, outputOf, lastOutput}
 use Rattle.line_stream.proofs.Answers.{output-most}
 use Rattle.line_stream.proofs.FirstQuestion.{too-long}
 
 pub first-refusal : (line : List ℕ) → answerOf line (replicate replyMost 0) .number ≡ 1
     → lineOutput line ≡ 48 ∷ 49 ∷ 10 ∷ []
-unfolding lineOutput answeredOf
-first-refusal line e = by (answeredOf line (replicate replyMost 0)) e
+unfolding lineOutput outcomeOf
+first-refusal line e = by (outcomeOf line (replicate replyMost 0)) e
   where
-    by : (a : Answered) → a .number ≡ 1 → textOf a ++ (10 ∷ []) ≡ 48 ∷ 49 ∷ 10 ∷ []
+    by : (a : Outcome) → a .number ≡ 1 → textOf a ++ (10 ∷ []) ≡ 48 ∷ 49 ∷ 10 ∷ []
     by a e = rw e
 
 long-output : (line : List ℕ) → lineMost < length line → lineOutput line ≡ 48 ∷ 49 ∷ 10 ∷ []

@@ -4,16 +4,9 @@ use mathlib.Core.List.{List, [], _∷_, _++_}
 use Prim.Native.Nat.{ℕ, _+_, _/_, _%_}
 use lib.Dec.{eqb}
 use lib.ListN.{take, replicate}
+use Rattle.line_kinds.specs.Kinds.{lineMost, replyMost}
+use Rattle.lines.specs.Answer.{Outcome, outcomeOf}
 use Rattle.line_cut.specs.Stream.{Answering, Progress, wholeOf, lastOf, streamOf}
-use Rattle.line_stream.specs.Answered.{Answered, answeredOf}
-
--- the characters of the longest line that passes question 1
-abbrev pub lineMost : ℕ
-lineMost = 296
-
--- the most places of a reply
-abbrev pub replyMost : ℕ
-replyMost = 728
 
 -- the most places of what is written for a line: a reply and a line feed
 abbrev pub answerMost : ℕ
@@ -24,12 +17,12 @@ abbrev pub twoDigits : ℕ → List ℕ
 twoDigits n = (48 + n / 10 % 10) ∷ (48 + n % 10) ∷ []
 
 -- the reply, or the refusal in two decimal digits
-abbrev pub textOf : Answered → List ℕ
+abbrev pub textOf : Outcome → List ℕ
 textOf a = cond (eqb (a .number) 0) (take (a .filled) (a .places)) (twoDigits (a .number))
 
 -- what is written for a line: its answer, where `replyMost` places that hold 0 are lent, ended by a line feed
 unfoldable pub lineOutput : List ℕ → List ℕ
-lineOutput line = textOf (answeredOf line (replicate replyMost 0)) ++ (10 ∷ [])
+lineOutput line = textOf (outcomeOf line (replicate replyMost 0)) ++ (10 ∷ [])
 
 -- the line entry as a way to answer lines: nothing goes from line to line
 abbrev pub lineWay : Answering (Unit {0})

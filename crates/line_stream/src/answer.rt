@@ -1,5 +1,5 @@
 // A line's answer in characters.
-use crate::answered::answer_counted;
+use lines::answered;
 ghost use mathlib.Core.Path.{_≡_};
 ghost use mathlib.Core.List.{_++_, _∷_, []};
 ghost use Prim.Native.Nat.{_+_, _%_, _≤_, _<_};
@@ -38,7 +38,7 @@ pub fn write_line(text: &[u8], count: usize, out: &mut [u8], at: usize) -> usize
     requires { ⌜ (count ≤ length (now text)) × (at + answerMost ≤ length (now out)) ⌝ }
     ensures { λ r. ⌜ Put (now (out .entry)) at (lineOutput (take count (now (text .entry)))) r (now (out .exit)) ⌝ }
 {
-    let a = answer_counted(&text[..count], &mut out[at..]);
+    let a = answered(&text[..count], &mut out[at..]);
     if a.number == 0 {
         return end_reply(out, at, a.filled);
     }

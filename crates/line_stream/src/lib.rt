@@ -1,11 +1,12 @@
 // The line entry's answers to the lines of blocks of characters, in constant memory.
 mod answer;
-mod answered;
 
 use answer::write_line;
 use line_cut::keep::keep;
 use line_cut::keep::least;
 use line_cut::line_feed::find;
+use line_kinds::LINE;
+use line_kinds::REPLY;
 ghost use mathlib.Core.Path.{_≡_};
 ghost use mathlib.Core.List.{_++_};
 ghost use Prim.Native.Nat.{_+_, _≤_};
@@ -13,12 +14,6 @@ ghost use lib.ListN.{length, take};
 ghost use Rattle.line_cut.specs.Cut.{Fills, Put};
 ghost use Rattle.line_cut.specs.Stream.{keptMost, Streams};
 ghost use Rattle.line_stream.specs.Output.{lineOutput, answerMost, lineWay, callOf, lastOutput};
-
-// The longest line that is answered by all its characters, and the places of the longest reply: `lineMost` and
-// `replyMost` in the definitions.
-const LINE: usize = 296;
-
-const REPLY: usize = 728;
 
 // The characters kept of a line that has begun.
 pub const KEPT: usize = LINE + 1;

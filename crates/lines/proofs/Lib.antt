@@ -1,2 +1,4 @@
-pub mod Checks
+-- Laws of the line entry: the ways out of a reply, the record that a reply is made of, and the ways out of the entry.
+pub mod Replies
+pub mod Records
 pub mod Entry

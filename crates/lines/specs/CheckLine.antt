@@ -1,37 +1,20 @@
 -- Kind 00: what `check` answers to a frame. Definitions only.
-use mathlib.Core.List.{List}
 use lib.Dec.{eqb}
-use lib.Ieee.{Float}
-use Rattle.profile.specs.declared.Profile.{Profile}
+use Rattle.labels.specs.Labels.{labelOf, signsOf}
 use Rattle.profile.specs.declared.Checked.{Checked}
+use Rattle.profile.specs.Parts.{withTimes}
 use Rattle.profile.specs.Check.{checkOf}
 use Rattle.profile.specs.Boundary.{defaultOf, boundaryOf}
-use Rattle.labels.specs.Labels.{labelOf, signsOf}
+use Rattle.line_frame.specs.declared.CheckNumbers.{CheckNumbers}
 use Rattle.line_frame.specs.Frame.{Frame}
 use Rattle.line_frame.specs.Numbers.{checkNumbersOf}
 
--- a record with these phase times
-abbrev pub withTimes : List Float → Profile → Profile
-withTimes t q =
-    record {
-      t = t;
-      «t_sum» = q .«t_sum»;
-      j = q .j;
-      a = q .a;
-      v = q .v;
-      p = q .p;
-      pf = q .pf;
-      vf = q .vf;
-      af = q .af;
-      limits = q .limits;
-      direction = q .direction;
-      «control_signs» = q .«control_signs»;
-    }
-
 -- Bytes 1 to 3 of the frame are signs, label and set_limits.
 -- The record starts as a default one after `set_boundary`, and with the times.
-unfoldable pub checkLineOf : Frame → Checked
-checkLineOf at =
-    let x = checkNumbersOf at in
+unfoldable pub checkedOf : CheckNumbers → Frame → Checked
+checkedOf x at =
     checkOf (signsOf (at 1)) (labelOf (at 2)) (eqb (at 3) 1) (x .jf) (x .«v_max») (x .«v_min») (x .«a_max») (x .«a_min»)
     (withTimes (x .t) (boundaryOf (x .p0) (x .v0) (x .a0) (x .pf) (x .vf) (x .af) defaultOf))
+
+abbrev pub checkLineOf : Frame → Checked
+checkLineOf at = checkedOf (checkNumbersOf at) at

@@ -2,7 +2,11 @@
 use labels::label;
 use labels::signs;
 use labels::start_labels;
+use line_frame::CheckNumbers;
 use line_frame::check_numbers;
+use line_kinds::FRAME;
+use line_kinds::RECORD;
+use line_questions::choices_fit;
 use line_reply::write_record;
 use profile::in_place::Goal;
 use profile::in_place::check;
@@ -10,15 +14,19 @@ ghost use mathlib.Core.Path.{_≡_};
 ghost use Prim.Native.Nat.{_≤_};
 ghost use lib.ListN.{length};
 ghost use Rattle.hex.specs.Hex.{hexOf, fill};
+ghost use Rattle.line_kinds.specs.declared.Asks.the-variants.{OfCheck};
+ghost use Rattle.line_kinds.specs.Kinds.{recordPlaces};
 ghost use Rattle.line_frame.specs.Frame.{byteAt};
 ghost use Rattle.line_reply.specs.Reply.{replyBytesOf};
-ghost use Rattle.lines.specs.CheckLine.{checkLineOf};
+ghost use Rattle.lines.specs.CheckLine.{checkedOf};
+ghost use Rattle.lines.specs.Answer.{Answer, frameAnswerOf};
 
-pub fn check_line(frame: &[u8; 148], reply: &mut [u8])
-    requires { ⌜ 728 ≤ length (now reply) ⌝ }
-    ensures { λ _. ⌜ now (reply .exit) ≡ fill (hexOf (replyBytesOf (checkLineOf (byteAt (now (frame .entry)))))) (now (reply .entry)) ⌝ }
+// The reply, of numbers that are read.
+fn check_reply(x: CheckNumbers, frame: &[u8; FRAME], reply: &mut [u8])
+    requires { ⌜ recordPlaces ≤ length (now reply) ⌝ }
+    ensures { λ _. ⌜ now (reply .exit)
+        ≡ fill (hexOf (replyBytesOf (checkedOf x (byteAt (now (frame .entry)))))) (now (reply .entry)) ⌝ }
 {
-    let x = check_numbers(frame);
     let t = x.t;
     let mut t_sum = [0.0; 7];
     let mut j = [0.0; 7];
@@ -49,4 +57,23 @@ pub fn check_line(frame: &[u8; 148], reply: &mut [u8])
         x.a_min,
     );
     write_record(reply, answer, &t, &t_sum, &j, &a, &v, &p);
+}
+
+pub fn check_line(frame: &[u8; FRAME], reply: &mut [u8]) -> u32
+    ensures { λ r. ⌜ record { number = r; places = now (reply .exit) }
+        ≡ frameAnswerOf OfCheck (byteAt (now (frame .entry))) (now (reply .entry)) ⌝ }
+{
+    if !choices_fit(frame) {
+        return 5;
+    }
+    let m = check_numbers(frame);
+    if !m.ok {
+        return 6;
+    }
+    if reply.len() < RECORD {
+        return 8;
+    }
+    let x = m.x;
+    check_reply(x, frame, reply);
+    0
 }

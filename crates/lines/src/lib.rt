@@ -5,28 +5,66 @@ mod replying;
 mod shape_line;
 
 use hex::decode;
-use line_questions::questions::count_fits;
-use line_questions::questions::first_no;
+use line_kinds::FRAME;
+use line_kinds::row_of;
+use line_questions::length_fits;
 use replying::reply_to;
 ghost use mathlib.Core.Path.{_≡_};
-ghost use Rattle.lines.specs.Answer.{Answer, answerOf};
+ghost use Rattle.lines.specs.Answer.{answerOf, outcomeOf};
+
+// The number, and how many of the lent places the reply fills.
+pub struct Numbered {
+    pub number: u32,
+    pub filled: usize,
+}
+
+pub fn answered(request: &[u8], reply: &mut [u8]) -> Numbered
+    ensures { λ r. ⌜ record { number = r .number; filled = r .filled; places = now (reply .exit) }
+        ≡ outcomeOf (now (request .entry)) (now (reply .entry)) ⌝ }
+{
+    let n = request.len();
+    if !length_fits(n) {
+        return Numbered {
+            number: 1,
+            filled: 0,
+        };
+    }
+    let mut frame = [0u8; FRAME];
+    if !decode(request, &mut frame) {
+        return Numbered {
+            number: 2,
+            filled: 0,
+        };
+    }
+    let row = row_of(frame[0]);
+    if row.bytes == 0 {
+        return Numbered {
+            number: 3,
+            filled: 0,
+        };
+    }
+    if n / 2 != row.bytes {
+        return Numbered {
+            number: 4,
+            filled: 0,
+        };
+    }
+    let asks = row.asks;
+    let number = reply_to(asks, &frame, reply);
+    if number != 0 {
+        return Numbered { number, filled: 0 };
+    }
+    Numbered {
+        number: 0,
+        filled: row.places,
+    }
+}
 
 #[no_mangle]
 pub extern "C" fn answer_line(request: &[u8], reply: &mut [u8]) -> u32
-    ensures { λ r. ⌜ record { number = r; places = now (reply .exit) } ≡ answerOf (now (request .entry)) (now (reply .entry)) ⌝ }
+    ensures { λ r. ⌜ record { number = r; places = now (reply .exit) }
+        ≡ answerOf (now (request .entry)) (now (reply .entry)) ⌝ }
 {
-    let n = request.len();
-    if !count_fits(n) {
-        return 1;
-    }
-    let mut frame = [0u8; 148];
-    if !decode(request, &mut frame) {
-        return 2;
-    }
-    let number = first_no(&frame, n / 2, reply.len());
-    if number != 0 {
-        return number;
-    }
-    reply_to(&frame, reply);
-    0
+    let a = answered(request, reply);
+    a.number
 }

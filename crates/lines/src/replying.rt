@@ -1,28 +1,21 @@
-// The reply to a frame that every question was answered yes for.
+// The answer to a frame of the length of its kind, by what it asks.
 use super::check_line::check_line;
 use super::quartic_line::quartic_line;
 use super::shape_line::shape_line;
+use line_kinds::Asks;
+use line_kinds::FRAME;
 ghost use mathlib.Core.Path.{_≡_};
-ghost use mathlib.Core.Bool.{true};
-ghost use lib.ListN.{length};
-ghost use Rattle.hex.specs.Hex.{hexOf, fill};
 ghost use Rattle.line_frame.specs.Frame.{byteAt};
-ghost use Rattle.line_questions.specs.Questions.{isKind, placesFit};
-ghost use Rattle.lines.specs.Answer.{replyOf};
+ghost use Rattle.lines.specs.Answer.{Answer, frameAnswerOf};
 
-pub fn reply_to(frame: &[u8; 148], reply: &mut [u8])
-    requires { ⌜ isKind (byteAt (now frame)) ≡ true ⌝ }
-    requires { ⌜ placesFit (byteAt (now frame)) (length (now reply)) ≡ true ⌝ }
-    ensures { λ _. ⌜ now (reply .exit) ≡ fill (hexOf (replyOf (byteAt (now (frame .entry))))) (now (reply .entry)) ⌝ }
+pub fn reply_to(asks: Asks, frame: &[u8; FRAME], reply: &mut [u8]) -> u32
+    ensures { λ r. ⌜ record { number = r; places = now (reply .exit) }
+        ≡ frameAnswerOf asks (byteAt (now (frame .entry))) (now (reply .entry)) ⌝ }
 {
-    let kind = frame[0];
-    if kind == 0x00 {
-        check_line(frame, reply);
-        return;
+    match asks {
+        Asks::NoKind => 0,
+        Asks::OfCheck => check_line(frame, reply),
+        Asks::OfShape(shape) => shape_line(shape, frame, reply),
+        Asks::OfQuartics(shape) => quartic_line(shape, frame, reply),
     }
-    if kind <= 0x05 {
-        shape_line(frame, reply);
-        return;
-    }
-    quartic_line(frame, reply);
 }

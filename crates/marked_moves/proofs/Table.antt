@@ -7,12 +7,12 @@ use Rattle.util.specs.Integrate.{integrateOf}
 use Rattle.sqrt.specs.Sqrt.{sqrtOf}
 use Rattle.roots.specs.Set.{holds, insertOf, insertAllOf, intoOf, sortedOf}
 use Rattle.roots.specs.Quartic.{needOf, factorsOf, quadraticOf, withoutCdOf, withCbrtOf, resolvedOf, offeredOf, rootsOf}
-use Rattle.profile.specs.Labels.{testsOf}
-use Rattle.profile.specs.Signs.{jerksOf}
-use Rattle.profile.specs.Run.{run}
-use Rattle.profile.specs.Times.{sumStep, sumsOf, refusedOf}
-use Rattle.profile.specs.Limit.{bandOf}
-use Rattle.profile.specs.Phase.{replacedOf, zeroInsideOf, nodeOf, phaseOf}
+use Rattle.labels.specs.Tests.{testsOf}
+use Rattle.labels.specs.Jerks.{jerksOf}
+use Rattle.phases.specs.Run.{run}
+use Rattle.phases.specs.Times.{sumStep, sumsOf, refusedOf}
+use Rattle.phases.specs.Limit.{bandOf}
+use Rattle.phases.specs.Phase.{replacedOf, zeroInsideOf, nodeOf, phaseOf}
 use Rattle.profile.specs.Check.{arrivedOf, keptOf, checkOf}
 use Rattle.profile.specs.Boundary.{boundaryOf}
 use Rattle.step2_solver.specs.New.{newOf}

@@ -1,17 +1,29 @@
--- The five shapes, and what each of them makes of a profile. Definitions only.
+-- The five shapes: the attempts that each makes, in their order, and what comes of them on a profile. Definitions only.
 use Prim.Native.Nat.{ℕ}
+use mathlib.Core.Bool.{cond}
+use mathlib.Core.List.{List, [], _∷_, _++_, map}
 use lib.Ieee.{Float}
+use Rattle.float.specs.Ops.{#0}
 use Rattle.profile.specs.declared.Profile.{Profile}
 use Rattle.profile.specs.declared.Checked.{Checked}
 use Rattle.roots.specs.declared.RootAnswer.{RootAnswer}
+use Rattle.roots.specs.declared.RootAnswer.the-variants.{CubeRoot}
+use Rattle.roots.specs.Set.{sortedOf}
+use Rattle.roots.specs.Quartic.{polynomRootsOf}
 use Rattle.step2_solver.specs.declared.PositionThirdOrderStep2.{PositionThirdOrderStep2}
-use Rattle.position_third_step2.specs.declared.Shape.{Shape}
-use Rattle.position_third_step2.specs.declared.Shape.the-variants.{Acc0Acc1Vel, Acc1Vel, Acc0Vel, Acc0Acc1, Acc0}
-use Rattle.step2_shapes.specs.TimeAcc0Acc1Vel.{timeAcc0Acc1VelOf}
-use Rattle.step2_shapes_quartic.specs.TimeAcc1Vel.{timeAcc1VelOf}
-use Rattle.step2_shapes_quartic.specs.TimeAcc0Vel.{timeAcc0VelOf}
-use Rattle.step2_shapes.specs.TimeAcc0Acc1.{timeAcc0Acc1Of}
-use Rattle.step2_shapes.specs.TimeAcc0.{timeAcc0Of}
+use Rattle.step2_solver.specs.declared.Limits.{Limits}
+use Rattle.step2_solver.specs.declared.Trial.{Trial}
+use Rattle.step2_solver.specs.declared.Shape.{Shape}
+use Rattle.step2_solver.specs.declared.Shape.the-variants.{Acc0Acc1Vel, Acc1Vel, Acc0Vel, Acc0Acc1, Acc0}
+use Rattle.step2_solver.specs.TimeAcc0Acc1Vel.{acc0Acc1VelUddu, acc0Acc1VelUdud}
+use Rattle.step2_solver.specs.TimeAcc0Acc1.{acc0Acc1RestApplies, acc0Acc1Rest, acc0Acc1Uddu}
+use Rattle.step2_solver.specs.TimeAcc0.{acc0First, acc0Second, acc0Third}
+use Rattle.step2_solver_quartic.specs.declared.Quartics.{Quartics}
+use Rattle.step2_solver_quartic.specs.TimeAcc1Vel.{acc1VelUdduWindow, acc1VelUddu, acc1VelUdudWindow, acc1VelUdud}
+use Rattle.step2_solver_quartic.specs.TimeAcc0Vel.{acc0VelTooShort}
+use Rattle.step2_solver_quartic.specs.TimeAcc0Vel.{acc0VelUdduWindow, acc0VelUddu, acc0VelUdudWindow, acc0VelUdud}
+use Rattle.step2_solver_quartic.specs.Quartics.{quarticsOf}
+use Rattle.step2_attempt.specs.Attempt.{triedOf}
 
 -- document 01's kind for each shape
 abbrev pub shapeKind : Shape → ℕ
@@ -21,10 +33,35 @@ shapeKind Acc0Vel = 0x03
 shapeKind Acc0Acc1 = 0x04
 shapeKind Acc0 = 0x05
 
--- the root answers are those of UDDU's quartic and of UDUD's
-abbrev pub shapeOf : Shape → PositionThirdOrderStep2 → RootAnswer → RootAnswer → (v-max v-min a-max a-min j-max : Float) → Profile → Checked
-shapeOf Acc0Acc1Vel s first second v-max v-min a-max a-min j-max = timeAcc0Acc1VelOf s v-max v-min a-max a-min j-max
-shapeOf Acc1Vel s first second v-max v-min a-max a-min j-max = timeAcc1VelOf s first second v-max v-min a-max a-min j-max
-shapeOf Acc0Vel s first second v-max v-min a-max a-min j-max = timeAcc0VelOf s first second v-max v-min a-max a-min j-max
-shapeOf Acc0Acc1 s first second v-max v-min a-max a-min j-max = timeAcc0Acc1Of s v-max v-min a-max a-min j-max
-shapeOf Acc0 s first second v-max v-min a-max a-min j-max = timeAcc0Of s v-max v-min a-max a-min j-max
+-- an attempt at each root of a quartic, from the smallest on
+abbrev pub overRoots : (Float → Trial) → List Float → RootAnswer → List Trial
+overRoots attempt polynom answer = map attempt (sortedOf (polynomRootsOf polynom answer))
+
+-- The Rust's attempts, in its order. q are UDDU's quartic and UDUD's, first and second what is answered for them.
+abbrev pub attemptsOf : Shape → PositionThirdOrderStep2 → Limits → Quartics → RootAnswer → RootAnswer → List Trial
+attemptsOf Acc0Acc1Vel s l q first second = acc0Acc1VelUddu s l ∷ acc0Acc1VelUdud s l ∷ []
+attemptsOf Acc1Vel s l q first second =
+    overRoots (acc1VelUddu s l (acc1VelUdduWindow s l)) (q .uddu) first
+    ++ overRoots (acc1VelUdud s l (acc1VelUdudWindow s l)) (q .udud) second
+attemptsOf Acc0Vel s l q first second =
+    cond (acc0VelTooShort s (l .«a_max») (l .«j_max»)) []
+    (overRoots (acc0VelUddu s l (acc0VelUdduWindow s l)) (q .uddu) first
+    ++ overRoots (acc0VelUdud s l (acc0VelUdudWindow s l)) (q .udud) second)
+attemptsOf Acc0Acc1 s l q first second = cond (acc0Acc1RestApplies s) (acc0Acc1Rest s l) (acc0Acc1Uddu s l) ∷ []
+attemptsOf Acc0 s l q first second = acc0First s l ∷ acc0Second s l ∷ acc0Third s l ∷ []
+
+-- a shape, with quartics and answers that are handed in
+abbrev pub shapeOf : Shape → PositionThirdOrderStep2 → Limits → Quartics → RootAnswer → RootAnswer → Profile → Checked
+shapeOf shape s l q first second = triedOf l (attemptsOf shape s l q first second)
+
+-- a shape, with its own quartics
+abbrev pub askedOf : Shape → PositionThirdOrderStep2 → Limits → RootAnswer → RootAnswer → Profile → Checked
+askedOf shape s l first second = shapeOf shape s l (quarticsOf shape s l) first second
+
+-- stands for the answers of a shape that looks at none
+abbrev pub unasked : RootAnswer
+unasked = CubeRoot #0
+
+abbrev pub limits : (v-max v-min a-max a-min j-max : Float) → Limits
+limits v-max v-min a-max a-min j-max =
+    record { «v_max» = v-max; «v_min» = v-min; «a_max» = a-max; «a_min» = a-min; «j_max» = j-max }

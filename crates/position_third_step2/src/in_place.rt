@@ -1,24 +1,28 @@
 // A shape asked in place: the profile's arrays are lent, so that nothing is copied from one attempt to the next.
-use super::Shape;
+use crate::acc0::time_acc0;
+use crate::acc0_acc1::time_acc0_acc1;
+use crate::acc0_acc1_vel::time_acc0_acc1_vel;
+use crate::acc0_vel::time_acc0_vel;
+use crate::acc1_vel::time_acc1_vel;
+use labels::Labels;
 use profile::in_place::Answer;
 use profile::in_place::Goal;
-use profile::in_place::Labels;
 use roots::RootAnswer;
-use step2_shapes::acc0::time_acc0;
-use step2_shapes::acc0_acc1::time_acc0_acc1;
-use step2_shapes::acc0_acc1_vel::time_acc0_acc1_vel;
-use step2_shapes_quartic::acc0_vel::time_acc0_vel;
-use step2_shapes_quartic::acc1_vel::time_acc1_vel;
+use step2_solver::Limits;
 use step2_solver::PositionThirdOrderStep2;
+use step2_solver::Shape;
+use step2_solver_quartic::Quartics;
 ghost use mathlib.Core.Path.{_≡_};
-ghost use Rattle.profile.specs.Phase.{Nodes};
-ghost use Rattle.profile.specs.Check.{profileOf};
+ghost use Rattle.phases.specs.Phase.{Nodes};
+ghost use Rattle.profile.specs.Parts.{profileOf};
 ghost use Rattle.position_third_step2.specs.Shape.{shapeOf};
 
-// The root answers are for the two quartics of the second and third shape; the others do not look at them.
+// The quartics and the root answers are those of the second and third shape; the others do not look at them.
 pub fn ask(
     shape: Shape,
     s: PositionThirdOrderStep2,
+    l: Limits,
+    q: Quartics,
     first: RootAnswer,
     second: RootAnswer,
     t: &mut [f64; 7],
@@ -29,100 +33,21 @@ pub fn ask(
     p: &mut [f64; 8],
     goal: Goal,
     labels: Labels,
-    v_max: f64,
-    v_min: f64,
-    a_max: f64,
-    a_min: f64,
-    j_max: f64,
 ) -> Answer
-    ensures { λ r. ⌜ record { ok = r .ok; profile = profileOf (now (t .exit)) (now («t_sum» .exit)) (now (j .exit)) (record { a = now (a .exit); v = now (v .exit); p = now (p .exit) }) goal (r .labels) }
-        ≡ shapeOf shape s first second «v_max» «v_min» «a_max» «a_min» «j_max»
-        (profileOf (now (t .entry)) (now («t_sum» .entry)) (now (j .entry)) (record { a = now (a .entry); v = now (v .entry); p = now (p .entry) }) goal labels) ⌝ }
+    ensures { λ r. ⌜ record {
+      ok = r .ok;
+      profile = profileOf (now (t .exit)) (now («t_sum» .exit)) (now (j .exit))
+          (record { a = now (a .exit); v = now (v .exit); p = now (p .exit) }) goal (r .labels);
+    }
+        ≡ shapeOf shape s l q first second
+        (profileOf (now (t .entry)) (now («t_sum» .entry)) (now (j .entry))
+        (record { a = now (a .entry); v = now (v .entry); p = now (p .entry) }) goal labels) ⌝ }
 {
     match shape {
-        Shape::Acc0Acc1Vel => time_acc0_acc1_vel(
-            s,
-            t,
-            t_sum,
-            j,
-            a,
-            v,
-            p,
-            goal,
-            labels,
-            v_max,
-            v_min,
-            a_max,
-            a_min,
-            j_max,
-        ),
-        Shape::Acc1Vel => time_acc1_vel(
-            s,
-            first,
-            second,
-            t,
-            t_sum,
-            j,
-            a,
-            v,
-            p,
-            goal,
-            labels,
-            v_max,
-            v_min,
-            a_max,
-            a_min,
-            j_max,
-        ),
-        Shape::Acc0Vel => time_acc0_vel(
-            s,
-            first,
-            second,
-            t,
-            t_sum,
-            j,
-            a,
-            v,
-            p,
-            goal,
-            labels,
-            v_max,
-            v_min,
-            a_max,
-            a_min,
-            j_max,
-        ),
-        Shape::Acc0Acc1 => time_acc0_acc1(
-            s,
-            t,
-            t_sum,
-            j,
-            a,
-            v,
-            p,
-            goal,
-            labels,
-            v_max,
-            v_min,
-            a_max,
-            a_min,
-            j_max,
-        ),
-        Shape::Acc0 => time_acc0(
-            s,
-            t,
-            t_sum,
-            j,
-            a,
-            v,
-            p,
-            goal,
-            labels,
-            v_max,
-            v_min,
-            a_max,
-            a_min,
-            j_max,
-        ),
+        Shape::Acc0Acc1Vel => time_acc0_acc1_vel(s, l, t, t_sum, j, a, v, p, goal, labels),
+        Shape::Acc1Vel => time_acc1_vel(s, l, q, first, second, t, t_sum, j, a, v, p, goal, labels),
+        Shape::Acc0Vel => time_acc0_vel(s, l, q, first, second, t, t_sum, j, a, v, p, goal, labels),
+        Shape::Acc0Acc1 => time_acc0_acc1(s, l, t, t_sum, j, a, v, p, goal, labels),
+        Shape::Acc0 => time_acc0(s, l, t, t_sum, j, a, v, p, goal, labels),
     }
 }

@@ -1,43 +1,35 @@
 // position_third_step2.rs: five shapes of step 2, each a few attempts at seven times, tried in the Rust's order.
+mod acc0;
+mod acc0_acc1;
+mod acc0_acc1_vel;
+mod acc0_vel;
+mod acc1_vel;
 pub mod in_place;
 
 use in_place::ask;
+use labels::Labels;
 use profile::Checked;
 use profile::Profile;
 use profile::in_place::Goal;
-use profile::in_place::Labels;
 use roots::RootAnswer;
+use step2_solver::Limits;
 use step2_solver::PositionThirdOrderStep2;
+use step2_solver::Shape;
+use step2_solver_quartic::quartics_of;
 ghost use mathlib.Core.Path.{_≡_};
-ghost use Rattle.position_third_step2.specs.Shape.{shapeOf};
-ghost use Rattle.step2_shapes.specs.TimeAcc0Acc1Vel.{timeAcc0Acc1VelOf};
-ghost use Rattle.step2_shapes_quartic.specs.TimeAcc1Vel.{timeAcc1VelOf};
-ghost use Rattle.step2_shapes_quartic.specs.TimeAcc0Vel.{timeAcc0VelOf};
-ghost use Rattle.step2_shapes.specs.TimeAcc0Acc1.{timeAcc0Acc1Of};
-ghost use Rattle.step2_shapes.specs.TimeAcc0.{timeAcc0Of};
-
-pub enum Shape {
-    Acc0Acc1Vel,
-    Acc1Vel,
-    Acc0Vel,
-    Acc0Acc1,
-    Acc0,
-}
+ghost use Rattle.step2_solver.specs.declared.Shape.the-variants.{Acc0Acc1Vel, Acc1Vel, Acc0Vel, Acc0Acc1, Acc0};
+ghost use Rattle.position_third_step2.specs.Shape.{askedOf, limits, unasked};
 
 // Any shape by value: its arrays are taken out, lent, and put back.
 fn asked(
     shape: Shape,
     s: PositionThirdOrderStep2,
+    l: Limits,
     first: RootAnswer,
     second: RootAnswer,
     profile: Profile,
-    v_max: f64,
-    v_min: f64,
-    a_max: f64,
-    a_min: f64,
-    j_max: f64,
 ) -> Checked
-    ensures { λ r. ⌜ r ≡ shapeOf shape s first second «v_max» «v_min» «a_max» «a_min» «j_max» profile ⌝ }
+    ensures { λ r. ⌜ r ≡ askedOf shape s l first second profile ⌝ }
 {
     let mut t = profile.t;
     let mut t_sum = profile.t_sum;
@@ -58,9 +50,12 @@ fn asked(
         direction: was_direction,
         control_signs: was_signs,
     };
+    let q = quartics_of(shape, s, l);
     let answer = ask(
         shape,
         s,
+        l,
+        q,
         first,
         second,
         &mut t,
@@ -71,11 +66,6 @@ fn asked(
         &mut p,
         goal,
         labels,
-        v_max,
-        v_min,
-        a_max,
-        a_min,
-        j_max,
     );
     let now = answer.labels;
     let now_limits = now.limits;
@@ -109,21 +99,18 @@ pub fn time_acc0_acc1_vel(
     a_min: f64,
     j_max: f64,
 ) -> Checked
-    ensures { λ r. ⌜ r ≡ timeAcc0Acc1VelOf s «v_max» «v_min» «a_max» «a_min» «j_max» profile ⌝ }
+    ensures { λ r. ⌜ r ≡ askedOf Acc0Acc1Vel s (limits «v_max» «v_min» «a_max» «a_min» «j_max»)
+        unasked unasked profile ⌝ }
 {
-    let none = RootAnswer::CubeRoot(0.0);
-    asked(
-        Shape::Acc0Acc1Vel,
-        s,
-        none,
-        none,
-        profile,
+    let l = Limits {
         v_max,
         v_min,
         a_max,
         a_min,
         j_max,
-    )
+    };
+    let none = RootAnswer::CubeRoot(0.0);
+    asked(Shape::Acc0Acc1Vel, s, l, none, none, profile)
 }
 
 pub fn time_acc1_vel(
@@ -137,20 +124,16 @@ pub fn time_acc1_vel(
     a_min: f64,
     j_max: f64,
 ) -> Checked
-    ensures { λ r. ⌜ r ≡ timeAcc1VelOf s first second «v_max» «v_min» «a_max» «a_min» «j_max» profile ⌝ }
+    ensures { λ r. ⌜ r ≡ askedOf Acc1Vel s (limits «v_max» «v_min» «a_max» «a_min» «j_max») first second profile ⌝ }
 {
-    asked(
-        Shape::Acc1Vel,
-        s,
-        first,
-        second,
-        profile,
+    let l = Limits {
         v_max,
         v_min,
         a_max,
         a_min,
         j_max,
-    )
+    };
+    asked(Shape::Acc1Vel, s, l, first, second, profile)
 }
 
 pub fn time_acc0_vel(
@@ -164,20 +147,16 @@ pub fn time_acc0_vel(
     a_min: f64,
     j_max: f64,
 ) -> Checked
-    ensures { λ r. ⌜ r ≡ timeAcc0VelOf s first second «v_max» «v_min» «a_max» «a_min» «j_max» profile ⌝ }
+    ensures { λ r. ⌜ r ≡ askedOf Acc0Vel s (limits «v_max» «v_min» «a_max» «a_min» «j_max») first second profile ⌝ }
 {
-    asked(
-        Shape::Acc0Vel,
-        s,
-        first,
-        second,
-        profile,
+    let l = Limits {
         v_max,
         v_min,
         a_max,
         a_min,
         j_max,
-    )
+    };
+    asked(Shape::Acc0Vel, s, l, first, second, profile)
 }
 
 pub fn time_acc0_acc1(
@@ -189,21 +168,17 @@ pub fn time_acc0_acc1(
     a_min: f64,
     j_max: f64,
 ) -> Checked
-    ensures { λ r. ⌜ r ≡ timeAcc0Acc1Of s «v_max» «v_min» «a_max» «a_min» «j_max» profile ⌝ }
+    ensures { λ r. ⌜ r ≡ askedOf Acc0Acc1 s (limits «v_max» «v_min» «a_max» «a_min» «j_max») unasked unasked profile ⌝ }
 {
-    let none = RootAnswer::CubeRoot(0.0);
-    asked(
-        Shape::Acc0Acc1,
-        s,
-        none,
-        none,
-        profile,
+    let l = Limits {
         v_max,
         v_min,
         a_max,
         a_min,
         j_max,
-    )
+    };
+    let none = RootAnswer::CubeRoot(0.0);
+    asked(Shape::Acc0Acc1, s, l, none, none, profile)
 }
 
 pub fn time_acc0(
@@ -215,19 +190,15 @@ pub fn time_acc0(
     a_min: f64,
     j_max: f64,
 ) -> Checked
-    ensures { λ r. ⌜ r ≡ timeAcc0Of s «v_max» «v_min» «a_max» «a_min» «j_max» profile ⌝ }
+    ensures { λ r. ⌜ r ≡ askedOf Acc0 s (limits «v_max» «v_min» «a_max» «a_min» «j_max») unasked unasked profile ⌝ }
 {
-    let none = RootAnswer::CubeRoot(0.0);
-    asked(
-        Shape::Acc0,
-        s,
-        none,
-        none,
-        profile,
+    let l = Limits {
         v_max,
         v_min,
         a_max,
         a_min,
         j_max,
-    )
+    };
+    let none = RootAnswer::CubeRoot(0.0);
+    asked(Shape::Acc0, s, l, none, none, profile)
 }

@@ -1,3 +1,2 @@
-pub mod ByLabel
-pub mod Runs
+-- The ways out of `check`.
 pub mod Ways

@@ -5,13 +5,14 @@ use lib.ListN.{set}
 use lib.Ieee.{Float, lt}
 use Rattle.float.specs.Ops.{_⊕_, #0, #1e-12}
 use Rattle.float.specs.Helpers.{absOf}
-use Rattle.profile.specs.declared.ReachedLimits.{ReachedLimits}
-use Rattle.profile.specs.declared.ReachedLimits.the-variants.{None}
-use Rattle.profile.specs.declared.Direction.the-variants.{UP}
-use Rattle.profile.specs.declared.ControlSigns.{ControlSigns}
-use Rattle.profile.specs.declared.ControlSigns.the-variants.{UDDU}
+use Rattle.labels.specs.declared.ReachedLimits.{ReachedLimits}
+use Rattle.labels.specs.declared.ControlSigns.{ControlSigns}
+use Rattle.labels.specs.Labels.{startLabels}
+use Rattle.phases.specs.Phase.{Nodes}
 use Rattle.profile.specs.declared.Profile.{Profile}
 use Rattle.profile.specs.declared.Checked.{Checked}
+use Rattle.profile.specs.declared.in_place.Goal.{Goal}
+use Rattle.profile.specs.Parts.{profileOf, withNodes, withGoal}
 use Rattle.profile.specs.Check.{checkOf}
 
 abbrev zeros7 : List Float
@@ -20,40 +21,19 @@ zeros7 = #0 ∷ #0 ∷ #0 ∷ #0 ∷ #0 ∷ #0 ∷ #0 ∷ []
 -- all numbers +0, label None, direction UP, signs UDDU
 abbrev pub defaultOf : Profile
 defaultOf =
-    record {
-      t = zeros7;
-      «t_sum» = zeros7;
-      j = zeros7;
-      a = #0 ∷ zeros7;
-      v = #0 ∷ zeros7;
-      p = #0 ∷ zeros7;
-      pf = #0;
-      vf = #0;
-      af = #0;
-      limits = None;
-      direction = UP;
-      «control_signs» = UDDU;
-    }
+    profileOf zeros7 zeros7 zeros7 (record { a = #0 ∷ zeros7; v = #0 ∷ zeros7; p = #0 ∷ zeros7 })
+    (record { pf = #0; vf = #0; af = #0 })
+    startLabels
 
 -- the start in the first entries, and the goal
 unfoldable pub boundaryOf : Float → Float → Float → Float → Float → Float → Profile → Profile
 boundaryOf p0 v0 a0 pf vf af q =
-    record {
-      t = q .t;
-      «t_sum» = q .«t_sum»;
-      j = q .j;
-      a = set (q .a) 0 a0;
-      v = set (q .v) 0 v0;
-      p = set (q .p) 0 p0;
-      pf = pf;
-      vf = vf;
-      af = af;
-      limits = q .limits;
-      direction = q .direction;
-      «control_signs» = q .«control_signs»;
-    }
+    withGoal (record { pf = pf; vf = vf; af = af })
+    (withNodes (record { a = set (q .a) 0 a0; v = set (q .v) 0 v0; p = set (q .p) 0 p0 }) q)
 
 -- `check` without set_limits, where |jf| < |j_max| + J_EPS; else no, and the record as it came
-unfoldable pub checkFullOf : ControlSigns → ReachedLimits → Float → Float → Float → Float → Float → Float → Profile → Checked
+unfoldable pub checkFullOf :
+    ControlSigns → ReachedLimits → Float → Float → Float → Float → Float → Float → Profile → Checked
 checkFullOf signs limits jf v-max v-min a-max a-min j-max q =
-    cond (lt (absOf jf) (absOf j-max ⊕ #1e-12)) (checkOf signs limits false jf v-max v-min a-max a-min q) (record { ok = false; profile = q })
+    cond (lt (absOf jf) (absOf j-max ⊕ #1e-12)) (checkOf signs limits false jf v-max v-min a-max a-min q)
+    (record { ok = false; profile = q })

@@ -1,55 +1,24 @@
 -- `check` of profile.rs: the verdict and the record that it leaves, after a no as after a yes. Definitions only.
 use mathlib.Core.Bool.{Bool, true, false, cond, not, _&&_, _||_}
 use mathlib.Core.List.{List}
-use Prim.Native.Nat.{ℕ}
 use lib.ListN.{getD}
 use lib.Ieee.{Float, nan, lt, le}
 use Rattle.float.specs.Ops.{_⊖_, #1e-8, #1e-10}
 use Rattle.float.specs.Helpers.{absOf}
-use Rattle.profile.specs.declared.ReachedLimits.{ReachedLimits}
-use Rattle.profile.specs.declared.Direction.{Direction}
-use Rattle.profile.specs.declared.ControlSigns.{ControlSigns}
+use Rattle.labels.specs.declared.ReachedLimits.{ReachedLimits}
+use Rattle.labels.specs.declared.ControlSigns.{ControlSigns}
+use Rattle.labels.specs.Labels.{labels}
+use Rattle.labels.specs.Tests.{testsOf}
+use Rattle.labels.specs.Jerks.{jerksOf}
+use Rattle.phases.specs.declared.limit.Band.{Band}
+use Rattle.phases.specs.Run.{Step, run}
+use Rattle.phases.specs.Times.{sumsOf, refusedOf}
+use Rattle.phases.specs.Limit.{directionOf, bandOf}
+use Rattle.phases.specs.Phase.{Nodes, phaseOf}
 use Rattle.profile.specs.declared.Profile.{Profile}
 use Rattle.profile.specs.declared.Checked.{Checked}
-use Rattle.profile.specs.declared.limit.Band.{Band}
 use Rattle.profile.specs.declared.in_place.Goal.{Goal}
-use Rattle.profile.specs.declared.in_place.Labels.{Labels}
-use Rattle.profile.specs.Labels.{testsOf}
-use Rattle.profile.specs.Signs.{jerksOf}
-use Rattle.profile.specs.Run.{Step, run}
-use Rattle.profile.specs.Times.{sumsOf, refusedOf}
-use Rattle.profile.specs.Limit.{directionOf, bandOf}
-use Rattle.profile.specs.Phase.{Nodes, phaseOf}
-
--- a profile by its parts
-abbrev pub profileOf : List Float → List Float → List Float → Nodes → Goal → Labels → Profile
-profileOf t t-sum j n g l =
-    record {
-      t = t;
-      «t_sum» = t-sum;
-      j = j;
-      a = n .a;
-      v = n .v;
-      p = n .p;
-      pf = g .pf;
-      vf = g .vf;
-      af = g .af;
-      limits = l .limits;
-      direction = l .direction;
-      «control_signs» = l .«control_signs»;
-    }
-
-abbrev pub nodesOf : Profile → Nodes
-nodesOf q = record { a = q .a; v = q .v; p = q .p }
-
-abbrev pub goalOf : Profile → Goal
-goalOf q = record { pf = q .pf; vf = q .vf; af = q .af }
-
-abbrev pub labelsOf : Profile → Labels
-labelsOf q = record { limits = q .limits; direction = q .direction; «control_signs» = q .«control_signs» }
-
-abbrev pub labels : ReachedLimits → Direction → ControlSigns → Labels
-labels l d c = record { limits = l; direction = d; «control_signs» = c }
+use Rattle.profile.specs.Parts.{nodesOf, goalOf, withSums, withJerks, withNodes, withLabels}
 
 -- the end is the goal within P_PRECISION, V_PRECISION and A_PRECISION
 unfoldable pub arrivedOf : Nodes → Goal → Bool
@@ -72,9 +41,11 @@ keptOf n a-band v-band =
     && withinOf (getD (n .v) 5 nan) v-band
     && withinOf (getD (n .v) 6 nan) v-band
 
--- The ways out, in the Rust's order: a time below 0, or a test of the label or of the total, leaves the sums so far; a velocity at
--- zero acceleration outside its limits leaves the jerks, the direction and the phases so far; and the end leaves all, with the labels.
-unfoldable pub checkOf : ControlSigns → ReachedLimits → Bool → Float → Float → Float → Float → Float → Profile → Checked
+-- The ways out, in the Rust's order: a time below 0, or a test of the label or of the total, leaves the sums so far;
+-- a velocity at zero acceleration outside its limits leaves the jerks, the direction and the phases so far; and the end
+-- leaves all, with the labels.
+unfoldable pub checkOf :
+    ControlSigns → ReachedLimits → Bool → Float → Float → Float → Float → Float → Profile → Checked
 checkOf signs limits set-limits jf v-max v-min a-max a-min q =
     let sums = sumsOf (q .t) (q .«t_sum») in
     let tests = testsOf limits in
@@ -83,14 +54,12 @@ checkOf signs limits set-limits jf v-max v-min a-max a-min q =
     let v-band = bandOf v-max v-max v-min in
     let a-band = bandOf v-max a-max a-min in
     let nodes = run (phaseOf tests set-limits a-max a-min v-band (q .t) j) 7 0 (nodesOf q) in
-    cond (not (sums .ok) || refusedOf tests (q .t) (sums .left))
-    (record { ok = false; profile = profileOf (q .t) (sums .left) (q .j) (nodesOf q) (goalOf q) (labelsOf q) })
+    let summed = withSums (sums .left) q in
+    let moved = withNodes (nodes .left) (withJerks j summed) in
+    cond (not (sums .ok) || refusedOf tests (q .t) (sums .left)) (record { ok = false; profile = summed })
     (cond (nodes .ok)
     (record {
       ok = arrivedOf (nodes .left) (goalOf q) && keptOf (nodes .left) a-band v-band;
-      profile = profileOf (q .t) (sums .left) j (nodes .left) (goalOf q) (labels limits way signs);
+      profile = withLabels (labels limits way signs) moved;
     })
-    (record {
-      ok = false;
-      profile = profileOf (q .t) (sums .left) j (nodes .left) (goalOf q) (labels (q .limits) way (q .«control_signs»));
-    }))
+    (record { ok = false; profile = withLabels (labels (q .limits) way (q .«control_signs»)) moved }))

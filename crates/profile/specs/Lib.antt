@@ -1,8 +1,3 @@
-pub mod Labels
-pub mod Signs
-pub mod Run
-pub mod Times
-pub mod Limit
-pub mod Phase
+pub mod Parts
 pub mod Check
 pub mod Boundary

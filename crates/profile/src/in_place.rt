@@ -1,31 +1,26 @@
 // `check` in place.
-use super::ControlSigns;
-use super::Direction;
-use super::ReachedLimits;
-use super::limit::Band;
-use super::limit::direction;
-use super::limit::widened;
-use super::phase::phase;
-use super::signs::jerks;
-use super::tests::tests_under;
-use super::times::refused;
-use super::times::sums;
-use float::abs;
+use float::near;
+use labels::ControlSigns;
+use labels::Labels;
+use labels::ReachedLimits;
+use labels::jerks::jerks;
+use labels::tests::tests_under;
+use phases::limit::Band;
+use phases::limit::direction;
+use phases::limit::widened;
+use phases::nodes::nodes;
+use phases::times::refused;
+use phases::times::sums;
 ghost use mathlib.Core.Path.{_≡_};
-ghost use Rattle.profile.specs.Phase.{Nodes};
-ghost use Rattle.profile.specs.Check.{arrivedOf, withinOf, keptOf, profileOf, checkOf};
+ghost use Rattle.phases.specs.Phase.{Nodes};
+ghost use Rattle.profile.specs.Parts.{profileOf};
+ghost use Rattle.profile.specs.Check.{arrivedOf, withinOf, keptOf, checkOf};
 
 const P_PRECISION: f64 = 1e-8;
 
 const V_PRECISION: f64 = 1e-8;
 
 const A_PRECISION: f64 = 1e-10;
-
-pub struct Labels {
-    pub limits: ReachedLimits,
-    pub direction: Direction,
-    pub control_signs: ControlSigns,
-}
 
 pub struct Goal {
     pub pf: f64,
@@ -47,13 +42,14 @@ fn within(x: f64, band: Band) -> bool
 fn arrived(a: &[f64; 8], v: &[f64; 8], p: &[f64; 8], goal: Goal) -> bool
     ensures { λ r. ⌜ r ≡ arrivedOf (record { a = now (a .entry); v = now (v .entry); p = now (p .entry) }) goal ⌝ }
 {
-    (abs(p[7] - goal.pf) < P_PRECISION)
-        & (abs(v[7] - goal.vf) < V_PRECISION)
-        & (abs(a[7] - goal.af) < A_PRECISION)
+    near(p[7] - goal.pf, P_PRECISION)
+        & near(v[7] - goal.vf, V_PRECISION)
+        & near(a[7] - goal.af, A_PRECISION)
 }
 
 fn kept(a: &[f64; 8], v: &[f64; 8], p: &[f64; 8], a_band: Band, v_band: Band) -> bool
-    ensures { λ r. ⌜ r ≡ keptOf (record { a = now (a .entry); v = now (v .entry); p = now (p .entry) }) «a_band» «v_band» ⌝ }
+    ensures { λ r. ⌜ r
+        ≡ keptOf (record { a = now (a .entry); v = now (v .entry); p = now (p .entry) }) «a_band» «v_band» ⌝ }
 {
     within(a[1], a_band)
         & within(a[3], a_band)
@@ -82,9 +78,14 @@ pub fn check(
     a_max: f64,
     a_min: f64,
 ) -> Answer
-    ensures { λ r. ⌜ record { ok = r .ok; profile = profileOf (now (t .entry)) (now («t_sum» .exit)) (now (j .exit)) (record { a = now (a .exit); v = now (v .exit); p = now (p .exit) }) goal (r .labels) }
+    ensures { λ r. ⌜ record {
+      ok = r .ok;
+      profile = profileOf (now (t .entry)) (now («t_sum» .exit)) (now (j .exit))
+          (record { a = now (a .exit); v = now (v .exit); p = now (p .exit) }) goal (r .labels);
+    }
         ≡ checkOf «control_signs» limits «set_limits» jf «v_max» «v_min» «a_max» «a_min»
-        (profileOf (now (t .entry)) (now («t_sum» .entry)) (now (j .entry)) (record { a = now (a .entry); v = now (v .entry); p = now (p .entry) }) goal labels) ⌝ }
+        (profileOf (now (t .entry)) (now («t_sum» .entry)) (now (j .entry))
+        (record { a = now (a .entry); v = now (v .entry); p = now (p .entry) }) goal labels) ⌝ }
 {
     let was_limits = labels.limits;
     let was_signs = labels.control_signs;
@@ -98,29 +99,15 @@ pub fn check(
     jerks(control_signs, t, jf, j);
     let way = direction(v_max);
     let v_band = widened(v_max, v_max, v_min);
-    for i in 0..7 {
-        if !phase(
-            i,
-            t[i],
-            j[i],
-            a,
-            v,
-            p,
-            made,
-            set_limits,
-            a_max,
-            a_min,
-            v_band,
-        ) {
-            return Answer {
-                ok: false,
-                labels: Labels {
-                    limits: was_limits,
-                    direction: way,
-                    control_signs: was_signs,
-                },
-            };
-        }
+    if !nodes(t, j, a, v, p, made, set_limits, a_max, a_min, v_band) {
+        return Answer {
+            ok: false,
+            labels: Labels {
+                limits: was_limits,
+                direction: way,
+                control_signs: was_signs,
+            },
+        };
     }
     let a_band = widened(v_max, a_max, a_min);
     Answer {

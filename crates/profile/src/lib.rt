@@ -1,43 +1,23 @@
-// profile.rs: the record of a move, its labels, and `check`, which adds up seven phase times.
+// profile.rs: the record of a move, and `check`, which adds up seven phase times.
 // Left out of the Rust's `Profile` are `brake` and `accel`, which these functions neither read nor write.
 pub mod in_place;
-mod limit;
-mod phase;
-mod signs;
-mod tests;
-mod times;
 
 use float::abs;
 use in_place::Goal;
-use in_place::Labels;
+use labels::ControlSigns;
+use labels::Direction;
+use labels::Labels;
+use labels::ReachedLimits;
+use labels::start_labels;
 ghost use mathlib.Core.Path.{_≡_};
 ghost use mathlib.Core.Bool.{false};
+ghost use Rattle.phases.specs.Phase.{Nodes};
+ghost use Rattle.profile.specs.Parts.{profileOf, goalOf, labelsOf};
 ghost use Rattle.profile.specs.Check.{checkOf};
 ghost use Rattle.profile.specs.Boundary.{defaultOf, boundaryOf, checkFullOf};
 
 // J_EPS
 const J_EPS: f64 = 1e-12;
-
-pub enum ReachedLimits {
-    Acc0Acc1Vel,
-    Vel,
-    Acc0,
-    Acc1,
-    Acc0Acc1,
-    Acc0Vel,
-    Acc1Vel,
-    None,
-}
-
-pub enum Direction {
-    UP,
-    DOWN,
-}
-
-pub enum ControlSigns {
-    UDDU,
-    UDUD,
-}
 
 pub struct Profile {
     pub t: [f64; 7],
@@ -61,24 +41,79 @@ pub struct Checked {
 }
 
 impl Profile {
+    // A profile by its parts: with `goal` and `labels` the one place where its fields are named.
+    pub fn from_parts(
+        t: [f64; 7],
+        t_sum: [f64; 7],
+        j: [f64; 7],
+        a: [f64; 8],
+        v: [f64; 8],
+        p: [f64; 8],
+        goal: Goal,
+        labels: Labels,
+    ) -> Profile
+        ensures { λ r. ⌜ r ≡ profileOf t «t_sum» j (record { a = a; v = v; p = p }) goal labels ⌝ }
+    {
+        let limits = labels.limits;
+        let direction = labels.direction;
+        let control_signs = labels.control_signs;
+        Profile {
+            t,
+            t_sum,
+            j,
+            a,
+            v,
+            p,
+            pf: goal.pf,
+            vf: goal.vf,
+            af: goal.af,
+            limits,
+            direction,
+            control_signs,
+        }
+    }
+
+    pub fn goal(self) -> Goal
+        ensures { λ r. ⌜ r ≡ goalOf self ⌝ }
+    {
+        Goal {
+            pf: self.pf,
+            vf: self.vf,
+            af: self.af,
+        }
+    }
+
+    pub fn labels(self) -> Labels
+        ensures { λ r. ⌜ r ≡ labelsOf self ⌝ }
+    {
+        let limits = self.limits;
+        let direction = self.direction;
+        let control_signs = self.control_signs;
+        Labels {
+            limits,
+            direction,
+            control_signs,
+        }
+    }
+
     // `Profile::default()`.
     pub fn default() -> Profile
         ensures { λ r. ⌜ r ≡ defaultOf ⌝ }
     {
-        Profile {
-            t: [0.0; 7],
-            t_sum: [0.0; 7],
-            j: [0.0; 7],
-            a: [0.0; 8],
-            v: [0.0; 8],
-            p: [0.0; 8],
-            pf: 0.0,
-            vf: 0.0,
-            af: 0.0,
-            limits: ReachedLimits::None,
-            direction: Direction::UP,
-            control_signs: ControlSigns::UDDU,
-        }
+        Profile::from_parts(
+            [0.0; 7],
+            [0.0; 7],
+            [0.0; 7],
+            [0.0; 8],
+            [0.0; 8],
+            [0.0; 8],
+            Goal {
+                pf: 0.0,
+                vf: 0.0,
+                af: 0.0,
+            },
+            start_labels(),
+        )
     }
 
     pub fn set_boundary(
@@ -113,7 +148,8 @@ impl Profile {
         a_max: f64,
         a_min: f64,
     ) -> Checked
-        ensures { λ r. ⌜ r ≡ checkOf «control_signs» limits «set_limits» jf «v_max» «v_min» «a_max» «a_min» self ⌝ }
+        ensures { λ r. ⌜ r
+            ≡ checkOf «control_signs» limits «set_limits» jf «v_max» «v_min» «a_max» «a_min» self ⌝ }
     {
         let t = self.t;
         let mut t_sum = self.t_sum;
@@ -121,19 +157,8 @@ impl Profile {
         let mut a = self.a;
         let mut v = self.v;
         let mut p = self.p;
-        let goal = Goal {
-            pf: self.pf,
-            vf: self.vf,
-            af: self.af,
-        };
-        let was_limits = self.limits;
-        let was_direction = self.direction;
-        let was_signs = self.control_signs;
-        let labels = Labels {
-            limits: was_limits,
-            direction: was_direction,
-            control_signs: was_signs,
-        };
+        let goal = self.goal();
+        let labels = self.labels();
         let answer = in_place::check(
             &t,
             &mut t_sum,
@@ -153,25 +178,9 @@ impl Profile {
             a_min,
         );
         let now = answer.labels;
-        let now_limits = now.limits;
-        let now_direction = now.direction;
-        let now_signs = now.control_signs;
         Checked {
             ok: answer.ok,
-            profile: Profile {
-                t,
-                t_sum,
-                j,
-                a,
-                v,
-                p,
-                pf: self.pf,
-                vf: self.vf,
-                af: self.af,
-                limits: now_limits,
-                direction: now_direction,
-                control_signs: now_signs,
-            },
+            profile: Profile::from_parts(t, t_sum, j, a, v, p, goal, now),
         }
     }
 
@@ -204,7 +213,8 @@ impl Profile {
         a_min: f64,
         j_max: f64,
     ) -> Checked
-        ensures { λ r. ⌜ r ≡ checkFullOf «control_signs» limits jf «v_max» «v_min» «a_max» «a_min» «j_max» self ⌝ }
+        ensures { λ r. ⌜ r
+            ≡ checkFullOf «control_signs» limits jf «v_max» «v_min» «a_max» «a_min» «j_max» self ⌝ }
     {
         if abs(jf) < abs(j_max) + J_EPS {
             self.check_with_timing(control_signs, limits, jf, v_max, v_min, a_max, a_min)

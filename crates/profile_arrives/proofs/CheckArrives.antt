@@ -15,10 +15,10 @@ use native.Mathlib.Omega.{arith}
 use lib.Dec.{T, eqb, eqb→eq, lit≤}
 use lib.Ieee.{Float, binary64, fits, lt}
 use Rattle.float.specs.Ops.{#0}
-use Rattle.profile.specs.declared.ReachedLimits.{ReachedLimits}
-use Rattle.profile.specs.declared.ControlSigns.{ControlSigns}
+use Rattle.labels.specs.declared.ReachedLimits.{ReachedLimits}
+use Rattle.labels.specs.declared.ControlSigns.{ControlSigns}
 use Rattle.profile.specs.declared.Profile.{Profile}
-use Rattle.profile.specs.Labels.{testsOf}
+use Rattle.labels.specs.Tests.{testsOf}
 use Rattle.profile.specs.Check.{checkOf}
 use Rattle.rounding.specs.Exact.{D, signed, Below, Same}
 use Rattle.rounding.specs.Value.{unit}

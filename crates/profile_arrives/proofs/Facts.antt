@@ -13,13 +13,13 @@ use lib.Ieee.Bits.{ofBits-fits}
 use lib.Ieee.Fits.{cond-fits, neg-fits, sub-fits}
 use Rattle.float.specs.Ops.{_⊕_, _⊖_, #0, #1e-8, #1e-10, #1e-12}
 use Rattle.float.specs.Helpers.{absOf}
-use Rattle.profile.specs.declared.ReachedLimits.{ReachedLimits}
-use Rattle.profile.specs.declared.ControlSigns.{ControlSigns}
-use Rattle.profile.specs.declared.signs.Sign.{Sign}
-use Rattle.profile.specs.declared.signs.Sign.the-variants.{Plus, Zero, Minus}
+use Rattle.labels.specs.declared.ReachedLimits.{ReachedLimits}
+use Rattle.labels.specs.declared.ControlSigns.{ControlSigns}
+use Rattle.labels.specs.declared.jerks.Sign.{Sign}
+use Rattle.labels.specs.declared.jerks.Sign.the-variants.{Plus, Zero, Minus}
 use Rattle.profile.specs.declared.Profile.{Profile}
-use Rattle.profile.specs.Signs.{signsOf, signedOf, jerkOf, jerksOf}
-use Rattle.profile.specs.Limit.{bandOf}
+use Rattle.labels.specs.Jerks.{patternOf, signedOf, jerkOf, jerksOf}
+use Rattle.phases.specs.Limit.{bandOf}
 use Rattle.profile.specs.Check.{arrivedOf, withinOf, keptOf}
 use Rattle.rounding.specs.Exact.{D, nought, signed, Size, Below, Same}
 use Rattle.rounding.specs.Value.{mag, sign, val, Finite}
@@ -74,9 +74,9 @@ close x f c g k h =
     (abs-finite d l, lt-size (absOf d) d c (abs-fits d (sub-fits binary64 x f)) g l k (abs-val d) (is-true h))
 
 -- ---- the jerks: ±jf or 0, and 0 where the time is not above 0
-pub jerk-is : (signs : ControlSigns) (t : List Float) (jf : Float) (i : ℕ) → i < 7 → getD (jerksOf signs t jf) i nan ≡ jerkOf (getD (signsOf signs) i Zero) (getD t i nan) jf
+pub jerk-is : (signs : ControlSigns) (t : List Float) (jf : Float) (i : ℕ) → i < 7 → getD (jerksOf signs t jf) i nan ≡ jerkOf (getD (patternOf signs) i Zero) (getD t i nan) jf
 unfolding jerksOf
-jerk-is signs t jf = by-seven (λ (i : ℕ). getD (jerksOf signs t jf) i nan ≡ jerkOf (getD (signsOf signs) i Zero) (getD t i nan) jf) refl refl refl refl refl refl refl
+jerk-is signs t jf = by-seven (λ (i : ℕ). getD (jerksOf signs t jf) i nan ≡ jerkOf (getD (patternOf signs) i Zero) (getD t i nan) jf) refl refl refl refl refl refl refl
 
 signed-fits : (s : Sign) (jf : Float) → T (fits binary64 jf) → T (fits binary64 (signedOf s jf))
 signed-fits Plus jf h = h
@@ -160,7 +160,7 @@ module _ {signs : ControlSigns} {limits : ReachedLimits} {jf v-max v-min a-max a
   goal-finite = (sub-finite (node q' 7 .p) (q' .pf) (end-p .0) .1, sub-finite (node q' 7 .v) (q' .vf) (end-v .0) .1, sub-finite (node q' 7 .a) (q' .af) (end-a .0) .1)
 
   pub held-jerk : T (fits binary64 jf) → (i : ℕ) → i < 7 → T (fits binary64 (jerk q' i))
-  held-jerk f i l = subst (λ (z : Float). T (fits binary64 z)) (sym (ap (λ (t : List Float). getD t i nan) (y .j-is) ∙ jerk-is signs (q .t) jf i l)) (jerk-fits (getD (signsOf signs) i Zero) (time q i) jf f)
+  held-jerk f i l = subst (λ (z : Float). T (fits binary64 z)) (sym (ap (λ (t : List Float). getD t i nan) (y .j-is) ∙ jerk-is signs (q .t) jf i l)) (jerk-fits (getD (patternOf signs) i Zero) (time q i) jf f)
 
   module _ (h : Held q) where
     -- no time is negative, so that the exact sum of the times is the sum of their sizes

@@ -9,14 +9,14 @@ use lib.ListN.{getD}
 use lib.Ieee.{Float, nan, binary64, lt, fits}
 use lib.Ieee.Bits.{ofBits-fits}
 use Rattle.float.specs.Ops.{#0}
-use Rattle.profile.specs.declared.ReachedLimits.{ReachedLimits}
-use Rattle.profile.specs.declared.ControlSigns.{ControlSigns}
-use Rattle.profile.specs.declared.ControlSigns.the-variants.{UDDU, UDUD}
-use Rattle.profile.specs.declared.signs.Sign.{Sign}
-use Rattle.profile.specs.declared.signs.Sign.the-variants.{Plus, Zero, Minus}
+use Rattle.labels.specs.declared.ReachedLimits.{ReachedLimits}
+use Rattle.labels.specs.declared.ControlSigns.{ControlSigns}
+use Rattle.labels.specs.declared.ControlSigns.the-variants.{UDDU, UDUD}
+use Rattle.labels.specs.declared.jerks.Sign.{Sign}
+use Rattle.labels.specs.declared.jerks.Sign.the-variants.{Plus, Zero, Minus}
 use Rattle.profile.specs.declared.Profile.{Profile}
-use Rattle.profile.specs.Labels.{testsOf}
-use Rattle.profile.specs.Signs.{signsOf, signedOf, jerkOf, jerksOf}
+use Rattle.labels.specs.Tests.{testsOf}
+use Rattle.labels.specs.Jerks.{patternOf, signedOf, jerkOf, jerksOf}
 use Rattle.rounding.specs.Exact.{D, nought, opposite, Near, Size, Below, Same, _⊞_, _⊟_, _⊠_, _⊙_}
 use Rattle.rounding.specs.Value.{unit, val, Finite}
 use Rattle.rounding.specs.Motion.{motion, perA}
@@ -53,13 +53,13 @@ module _ (s : Sign) (t jf : Float) (f : T (fits binary64 t)) (g : Finite t) (abo
       go false e = none (val t) (val #0) (val (signedOf s jf)) above (subst (λ (z : D). Below (val t) z) val-0 (lt-not #0 t (ofBits-fits binary64 0) f zero-finite g (is-false e)))
 
 -- both patterns of signs begin with +, 0, -
-first-signs : (signs : ControlSigns) → (getD (signsOf signs) 0 Zero ≡ Plus) × (getD (signsOf signs) 1 Zero ≡ Zero) × (getD (signsOf signs) 2 Zero ≡ Minus)
+first-signs : (signs : ControlSigns) → (getD (patternOf signs) 0 Zero ≡ Plus) × (getD (patternOf signs) 1 Zero ≡ Zero) × (getD (patternOf signs) 2 Zero ≡ Minus)
 first-signs UDDU = (refl, refl, refl)
 first-signs UDUD = (refl, refl, refl)
 
 module _ {signs : ControlSigns} {limits : ReachedLimits} {jf v-max v-min a-max a-min : Float} {q q' : Profile} (y : Yes signs limits jf v-max v-min a-max a-min q q') (h : Held q) where
   -- the phase i adds t[i] times ±jf to the acceleration
-  adds : (i : ℕ) (l : i < 7) (s : Sign) → getD (signsOf signs) i Zero ≡ s → Same (val (time q' i) ⊠ val (jerk q' i)) (val (time q' i) ⊠ val (signedOf s jf))
+  adds : (i : ℕ) (l : i < 7) (s : Sign) → getD (patternOf signs) i Zero ≡ s → Same (val (time q' i) ⊠ val (jerk q' i)) (val (time q' i) ⊠ val (signedOf s jf))
   adds i l s e =
       subst (λ (j : Float). Same (val (time q' i) ⊠ val j) (val (time q' i) ⊠ val (signedOf s jf)))
       (sym (ap (λ (j : List Float). getD j i nan) (y .j-is) ∙ ap (λ (t : List Float). getD (jerksOf signs t jf) i nan) (sym (y .carried .t-is)) ∙ jerk-is signs (q' .t) jf i l ∙ ap (λ (z : Sign). jerkOf z (time q' i) jf) e))

@@ -8,15 +8,15 @@ use native.Mathlib.Omega.{arith}
 use lib.ListN.{length, getD, set, length-set}
 use lib.Seq.{getD-set-same, getD-set-other}
 use lib.Ieee.{Float, nan}
-use Rattle.profile.specs.Run.{Step, run}
-use Rattle.profile.specs.Phase.{Nodes}
+use Rattle.phases.specs.Run.{Step, run}
+use Rattle.phases.specs.Phase.{Nodes}
 use Rattle.rounding.specs.Step.{Node}
 
 -- ---- the steps from i on: none is left, or another one
-never : (i l : ℕ) → i ≤ l → l < i + 0 → ⊥
+pub never : (i l : ℕ) → i ≤ l → l < i + 0 → ⊥
 never i l a b = omega arith
 
-later : (k i l : ℕ) → i < l → l < i + suc k → (i + 1 ≤ l) × (l < i + 1 + k)
+pub later : (k i l : ℕ) → i < l → l < i + suc k → (i + 1 ≤ l) × (l < i + 1 + k)
 later k i l a b = omega arith
 
 -- what holds of each of the seven phases
@@ -44,11 +44,11 @@ either-way P false s t h k = k
 
 module _ {X : Type 0} (f : ℕ → X → Step X) where
   -- the first step said yes, and the run is the rest of it
-  first : (k i : ℕ) (x : X) → run f (suc k) i x .ok ≡ true → (f i x .ok ≡ true) × (run f (suc k) i x ≡ run f k (i + 1) (f i x .left))
+  pub first : (k i : ℕ) (x : X) → run f (suc k) i x .ok ≡ true → (f i x .ok ≡ true) × (run f (suc k) i x ≡ run f k (i + 1) (f i x .left))
   unfolding run
   first k i x h = went (f i x .ok) (f i x) (run f k (i + 1) (f i x .left)) refl h
 
-  rest : (k i : ℕ) (x : X) → run f (suc k) i x .ok ≡ true → run f k (i + 1) (f i x .left) .ok ≡ true
+  pub rest : (k i : ℕ) (x : X) → run f (suc k) i x .ok ≡ true → run f k (i + 1) (f i x .left) .ok ≡ true
   rest k i x h = subst (λ (s : Step X). s .ok ≡ true) (first k i x h .1) h
 
   -- every step said yes, to some x
@@ -80,7 +80,7 @@ pub record Begins (n n' : Nodes) : Type 0 where
 eight-stored : (n : Nodes) (i : ℕ) (s : Node) → Eight n → Eight (stored n i s)
 eight-stored n i s h = record { eight-a = length-set (n .a) i (s .a) ∙ h .eight-a; eight-v = length-set (n .v) i (s .v) ∙ h .eight-v; eight-p = length-set (n .p) i (s .p) ∙ h .eight-p }
 
-made : {a a' v v' p p' : Float} → a ≡ a' → v ≡ v' → p ≡ p' → _≡_ {A = Node} (record { a = a; v = v; p = p }) (record { a = a'; v = v'; p = p' })
+pub made : {a a' v v' p p' : Float} → a ≡ a' → v ≡ v' → p ≡ p' → _≡_ {A = Node} (record { a = a; v = v; p = p }) (record { a = a'; v = v'; p = p' })
 made e f g = cc
 
 at-same : (n : Nodes) (i : ℕ) (s : Node) → Eight n → i < 8 → at (stored n i s) i ≡ s
@@ -98,7 +98,7 @@ module _ (f : ℕ → Nodes → Step Nodes) (g : ℕ → Node → Node) (is : (i
   eight-after i n h = subst (λ (z : Nodes). Eight z) (sym (is i n)) (eight-stored n (i + 1) (g i (at n i)) h)
 
   -- entries up to where the run begins stay, whatever it says
-  stays : (k i : ℕ) (n : Nodes) (l : ℕ) → l ≤ i → at (run f k i n .left) l ≡ at n l
+  pub stays : (k i : ℕ) (n : Nodes) (l : ℕ) → l ≤ i → at (run f k i n .left) l ≡ at n l
   unfolding run
   stays zero i n l a = refl
   stays (suc k) i n l a = either-way (λ (s : Step Nodes). at (s .left) l ≡ at n l) (f i n .ok) (run f k (i + 1) (f i n .left)) (f i n) (stays k (i + 1) (f i n .left) l (more l i a) ∙ one) one

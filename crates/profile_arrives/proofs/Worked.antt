@@ -9,16 +9,16 @@ use lib.Ieee.{Float, binary64, ofBits, neg, add, sub, mul, div, lt, le, fits}
 use Rattle.float.specs.Ops.{#0, #1, #2, #8}
 use Rattle.float.specs.Helpers.{absOf}
 use Rattle.util.specs.Integrate.{integrateOf}
-use Rattle.profile.specs.declared.ReachedLimits.the-variants.{Acc0Acc1Vel, None}
-use Rattle.profile.specs.declared.ControlSigns.the-variants.{UDDU}
-use Rattle.profile.specs.declared.Direction.the-variants.{UP}
+use Rattle.labels.specs.declared.ReachedLimits.the-variants.{Acc0Acc1Vel, None}
+use Rattle.labels.specs.declared.ControlSigns.the-variants.{UDDU}
+use Rattle.labels.specs.declared.Direction.the-variants.{UP}
 use Rattle.profile.specs.declared.Profile.{Profile}
-use Rattle.profile.specs.Labels.{testsOf}
-use Rattle.profile.specs.Signs.{jerksOf}
-use Rattle.profile.specs.Run.{run}
-use Rattle.profile.specs.Times.{sumStep, sumsOf, refusedOf}
-use Rattle.profile.specs.Limit.{bandOf}
-use Rattle.profile.specs.Phase.{replacedOf, zeroInsideOf, nodeOf, phaseOf}
+use Rattle.labels.specs.Tests.{testsOf}
+use Rattle.labels.specs.Jerks.{jerksOf}
+use Rattle.phases.specs.Run.{run}
+use Rattle.phases.specs.Times.{sumStep, sumsOf, refusedOf}
+use Rattle.phases.specs.Limit.{bandOf}
+use Rattle.phases.specs.Phase.{replacedOf, zeroInsideOf, nodeOf, phaseOf}
 use Rattle.profile.specs.Check.{arrivedOf, keptOf, checkOf}
 use Rattle.rounding.specs.Exact.{Size}
 use Rattle.rounding.specs.Value.{unit, mag, sign, val}

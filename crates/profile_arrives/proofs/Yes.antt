@@ -10,19 +10,21 @@ use lib.ListN.{getD, set}
 use lib.Ieee.{Float, nan, binary64, lt, fits}
 use Rattle.float.specs.Ops.{_⊕_, #0}
 use Rattle.util.specs.Integrate.{integrateOf}
-use Rattle.profile.specs.declared.ReachedLimits.{ReachedLimits}
-use Rattle.profile.specs.declared.ControlSigns.{ControlSigns}
-use Rattle.profile.specs.declared.tests.Tests.{Tests}
-use Rattle.profile.specs.declared.limit.Band.{Band}
+use Rattle.labels.specs.declared.ReachedLimits.{ReachedLimits}
+use Rattle.labels.specs.declared.ControlSigns.{ControlSigns}
+use Rattle.labels.specs.declared.tests.Tests.{Tests}
+use Rattle.phases.specs.declared.limit.Band.{Band}
 use Rattle.profile.specs.declared.Profile.{Profile}
 use Rattle.profile.specs.declared.Checked.{Checked}
-use Rattle.profile.specs.Labels.{testsOf}
-use Rattle.profile.specs.Signs.{jerksOf}
-use Rattle.profile.specs.Run.{Step, run, yes!, no! }
-use Rattle.profile.specs.Times.{sumStep, sumsOf, refusedOf}
-use Rattle.profile.specs.Limit.{directionOf, bandOf}
-use Rattle.profile.specs.Phase.{Nodes, replacedOf, nodeOf, phaseOf}
-use Rattle.profile.specs.Check.{profileOf, nodesOf, goalOf, labelsOf, labels, arrivedOf, keptOf, checkOf}
+use Rattle.labels.specs.Tests.{testsOf}
+use Rattle.labels.specs.Jerks.{jerksOf}
+use Rattle.phases.specs.Run.{Step, run, yes!, no! }
+use Rattle.phases.specs.Times.{sumStep, sumsOf, refusedOf}
+use Rattle.phases.specs.Limit.{directionOf, bandOf}
+use Rattle.phases.specs.Phase.{Nodes, replacedOf, nodeOf, phaseOf}
+use Rattle.labels.specs.Labels.{labels}
+use Rattle.profile.specs.Parts.{profileOf, nodesOf, goalOf, labelsOf}
+use Rattle.profile.specs.Check.{arrivedOf, keptOf, checkOf}
 use Rattle.rounding.specs.Step.{Node, nextA, nextV, nextP}
 use Rattle.profile_arrives.specs.Reply.{time, jerk, node, Held}
 use Rattle.profile_arrives.proofs.Steps.{at, stored, Eight, Begins, each-yes, begins, follows}

@@ -6,9 +6,9 @@ use lib.Dec.{T}
 use lib.ListN.{length, getD}
 use lib.Ieee.{Float, nan, binary64, fits, lt}
 use Rattle.float.specs.Ops.{#0}
-use Rattle.profile.specs.declared.ReachedLimits.{ReachedLimits}
+use Rattle.labels.specs.declared.ReachedLimits.{ReachedLimits}
 use Rattle.profile.specs.declared.Profile.{Profile}
-use Rattle.profile.specs.Labels.{testsOf}
+use Rattle.labels.specs.Tests.{testsOf}
 use Rattle.rounding.specs.Exact.{Size, Below, signed}
 use Rattle.rounding.specs.Value.{unit, val, Finite}
 use Rattle.rounding.specs.Motion.{Moving, motion, lasts}

@@ -20,10 +20,10 @@ use denote.Enum.Laws as EL
 use denote.Triple.End.{Kepts}
 use denote.Triple.Walked.{Stays, stay-none, AllGo, goes-none}
 use denote.Exit.{yes, Last, left}
-use Rattle.profile.proofs.ControlSigns as S
-use Rattle.profile.proofs.ControlSigns.Laws as S′
-use Rattle.profile.proofs.ReachedLimits as L
-use Rattle.profile.proofs.ReachedLimits.Laws as L′
+use Rattle.labels.proofs.ControlSigns as S
+use Rattle.labels.proofs.ControlSigns.Laws as S′
+use Rattle.labels.proofs.ReachedLimits as L
+use Rattle.labels.proofs.ReachedLimits.Laws as L′
 
 pub record Plain (R : RattleType) : Type 2 where
   pub val : R .Denot → Val

@@ -1,8 +1,8 @@
 // profile.rs: the functions that change a record which their caller keeps, as the Rust has them with `&mut self`.
 // The work is that of `profile`, by value: here the record is read, and what comes back is stored.
-use profile::ControlSigns;
+use labels::ControlSigns;
+use labels::ReachedLimits;
 use profile::Profile;
-use profile::ReachedLimits;
 ghost use mathlib.Core.Path.{_≡_};
 ghost use mathlib.Core.Bool.{false};
 ghost use Rattle.profile.specs.Check.{checkOf};

@@ -24,22 +24,22 @@ use Rattle.roots.specs.Set.{placesOf, insertOf, insertAllOf, intoOf, sor
 use Rattle.roots.specs.Quartic.{needOf, chosenOf, factorsOf, quadraticOf, withoutCdOf, withCbrtOf, resolvedOf, offeredOf, rootsOf}
 use Rattle.roots.proofs.Sets.{insert-cases, insertAll-length, sorted-length}
 
--- ---- a fact of every number of a list
-abbrev pub Every : (Float → Type 0) → List Float → Type 0
+-- ---- a fact of every entry of a list
+abbrev pub Every : {A : Type 0} → (A → Type 0) → List A → Type 0
 Every P [] = Unit {0}
 Every P (x ∷ l) = P x × Every P l
 
-module _ (P : Float → Type 0) where
-  pub every-at : (l : List Float) → Every P l → (i : ℕ) (z : Float) → i < length l → P (getD l i z)
+module _ {A : Type 0} (P : A → Type 0) where
+  pub every-at : (l : List A) → Every P l → (i : ℕ) (z : A) → i < length l → P (getD l i z)
   every-at [] e i z h = absurd (omega arith)
   every-at (x ∷ l) e zero z h = e .0
   every-at (x ∷ l) e (suc i) z h = every-at l (e .1) i z (omega arith)
 
-  pub every-of-all : ((x : Float) → P x) → (l : List Float) → Every P l
+  pub every-of-all : ((x : A) → P x) → (l : List A) → Every P l
   every-of-all f [] = tt
   every-of-all f (x ∷ l) = (f x, every-of-all f l)
 
-  pub every-append : (l m : List Float) → Every P l → Every P m → Every P (l ++ m)
+  pub every-append : (l m : List A) → Every P l → Every P m → Every P (l ++ m)
   every-append [] m e f = f
   every-append (x ∷ l) m e f = (e .0, every-append l m (e .1) f)
 

@@ -11,13 +11,13 @@ use lib.Pow.{pow-pos}
 use lib.ListN.{getD}
 use lib.Ieee.{Float, nan}
 use Rattle.float.specs.Ops.{#0}
-use Rattle.profile.specs.declared.ControlSigns.{ControlSigns}
-use Rattle.profile.specs.declared.ControlSigns.the-variants.{UDDU, UDUD}
-use Rattle.profile.specs.declared.signs.Sign.{Sign}
-use Rattle.profile.specs.declared.signs.Sign.the-variants.{Plus, Zero, Minus}
+use Rattle.labels.specs.declared.ControlSigns.{ControlSigns}
+use Rattle.labels.specs.declared.ControlSigns.the-variants.{UDDU, UDUD}
+use Rattle.labels.specs.declared.jerks.Sign.{Sign}
+use Rattle.labels.specs.declared.jerks.Sign.the-variants.{Plus, Zero, Minus}
 use Rattle.profile.specs.declared.Profile.{Profile}
 use Rattle.profile.specs.declared.Checked.{Checked}
-use Rattle.profile.specs.Signs.{signsOf, jerkOf, jerksOf}
+use Rattle.labels.specs.Jerks.{patternOf, jerkOf, jerksOf}
 use Rattle.rounding.specs.Exact.{D, signed, Below, Same, _⊙_}
 use Rattle.rounding.specs.Value.{unit, val}
 use Rattle.rounding.specs.Motion.{motion, state, lasts, elapsed}
@@ -30,14 +30,18 @@ use Rattle.profile_arrives.proofs.Yes.{Yes, check-yes}
 use Rattle.profile_arrives.proofs.Facts.{jerk-is, yes-finite, time-above, total-is}
 use Rattle.profile_arrives.proofs.Distances.{Narrowed, wider}
 use Rattle.profile_arrives.proofs.CheckArrives.{check-recorded, check-arrives-closely}
+use Rattle.step2_solver.specs.declared.Move.{Move}
 use Rattle.step2_times.specs.Facts.{Accepted, roundings, Lasts, Jerks, residual}
 use Rattle.step2_attempt.specs.Attempt.{timesOf}
-use Rattle.step2_arrives.specs.Moves.{Move, Numbers, Starts, Close, in-place, in-time, Demand3, Closely}
+use Rattle.step2_arrives.specs.Moves.{Numbers, Starts, Close, in-place, in-time, Demand3, Closely}
 use Rattle.step2_arrives.proofs.Made.{Made, starts-left}
 use Rattle.step2_arrives.proofs.Sound.{AlwaysSound}
 
 -- both patterns of signs begin with +, 0, -
-begin : (signs : ControlSigns) → (getD (signsOf signs) 0 Zero ≡ Plus) × (getD (signsOf signs) 1 Zero ≡ Zero) × (getD (signsOf signs) 2 Zero ≡ Minus)
+begin : (signs : ControlSigns)
+    → (getD (patternOf signs) 0 Zero ≡ Plus)
+    × (getD (patternOf signs) 1 Zero ≡ Zero)
+    × (getD (patternOf signs) 2 Zero ≡ Minus)
 begin UDDU = (refl, refl, refl)
 begin UDUD = (refl, refl, refl)
 
@@ -45,8 +49,12 @@ at-most : (s : D) (e k : ℕ) → Same s (signed false e) → Below s (signed fa
 at-most s e k h l = omega arith
 
 -- an error in units, as a distance
-close : {t : ℕ → Float} {tf : Float} (l : Lasts t tf) (f : Fraction) → l .err * f .d ≤ f .m * unit → Close f (lasts t 7) tf
-close {t} {tf} l f h = near-weaken (f .d ⊙ lasts t 7) (f .d ⊙ val tf) (f .d * l .err) (f .m * unit) (near-times (f .d) (lasts t 7) (val tf) (l .err) (l .near)) (le-trans (le-of-eq (mul-comm (f .d) (l .err))) h)
+close : {t : ℕ → Float} {tf : Float} (l : Lasts t tf) (f : Fraction) → l .err * f .d ≤ f .m * unit
+    → Close f (lasts t 7) tf
+close {t} {tf} l f h =
+    near-weaken (f .d ⊙ lasts t 7) (f .d ⊙ val tf) (f .d * l .err) (f .m * unit)
+    (near-times (f .d) (lasts t 7) (val tf) (l .err) (l .near))
+    (le-trans (le-of-eq (mul-comm (f .d) (l .err))) h)
 
 -- e is at most r parts in W, and those are at most m parts in d
 less : (e U W r d m : ℕ) → 0 < W → e * W ≤ r * U → r * d ≤ m * W → e * d ≤ m * U
@@ -57,12 +65,25 @@ less e U W r d m z h k = le-of-mul-le-mul-right (joined e U W r d m (mul-le-mul-
 
 -- what is proved is within what is demanded
 distances : Narrowed (proved residual) in-place
-distances = record { position = (lit≤ tt, lit≤ tt); velocity = (lit≤ tt, lit≤ tt); acceleration = (lit≤ tt, lit≤ tt); velocity-limit = (lit≤ tt, lit≤ tt); acceleration-limit = (lit≤ tt, lit≤ tt) }
+distances =
+    record {
+      position = (lit≤ tt, lit≤ tt);
+      velocity = (lit≤ tt, lit≤ tt);
+      acceleration = (lit≤ tt, lit≤ tt);
+      velocity-limit = (lit≤ tt, lit≤ tt);
+      acceleration-limit = (lit≤ tt, lit≤ tt);
+    }
 
 module _ {m : Move} {q : Profile} (d : Made m q) where
   -- ---- what `check` recorded and tested
-  pub made-yes : Yes (d .signs) (d .limits) (d .jf) (m .v-max) (m .v-min) (m .a-max) (m .a-min) (d .before) q
-  made-yes = subst (λ (z : Profile). Yes (d .signs) (d .limits) (d .jf) (m .v-max) (m .v-min) (m .a-max) (m .a-min) (d .before) z) (sym (d .left)) (check-yes (d .signs) (d .limits) (d .jf) (m .v-max) (m .v-min) (m .a-max) (m .a-min) (d .before) (d .starts .held) (d .said))
+  pub made-yes : Yes (d .signs) (d .limits) (d .jf) (m .«v_max») (m .«v_min») (m .«a_max») (m .«a_min») (d .before) q
+  made-yes =
+      subst
+      (λ (z : Profile).
+      Yes (d .signs) (d .limits) (d .jf) (m .«v_max») (m .«v_min») (m .«a_max») (m .«a_min») (d .before) z)
+      (sym (d .left))
+      (check-yes (d .signs) (d .limits) (d .jf) (m .«v_max») (m .«v_min») (m .«a_max») (m .«a_min») (d .before)
+      (d .starts .held) (d .said))
 
   pub made-starts : Starts m q
   made-starts = starts-left (made-yes .carried) (d .starts)
@@ -70,7 +91,7 @@ module _ {m : Move} {q : Profile} (d : Made m q) where
   time-is : (i : ℕ) → time q i ≡ getD (timesOf (d .times)) i nan
   time-is i = ap (λ (t : List Float). getD t i nan) (made-yes .carried .t-is ∙ d .times-are)
 
-  jerk-at : (i : ℕ) → i < 7 → (s : Sign) → getD (signsOf (d .signs)) i Zero ≡ s → jerk q i ≡ jerkOf s (time q i) (d .jf)
+  jerk-at : (i : ℕ) → i < 7 → (s : Sign) → getD (patternOf (d .signs)) i Zero ≡ s → jerk q i ≡ jerkOf s (time q i) (d .jf)
   jerk-at i l s e =
       ap (λ (j : List Float). getD j i nan) (made-yes .j-is)
       ∙ ap (λ (t : List Float). getD (jerksOf (d .signs) t (d .jf)) i nan) (sym (made-yes .carried .t-is))
@@ -92,7 +113,9 @@ module _ {m : Move} {q : Profile} (d : Made m q) where
           held = made-starts .held .held-t;
           finite = λ i l. yes-finite made-yes i l .t-finite;
           above = time-above made-yes (d .starts .held);
-          total = at-most (lasts (time q) 7) (elapsed (time q) 7) (8 * unit) (total-is made-yes (d .starts .held)) (w .total);
+          total =
+              at-most (lasts (time q) 7) (elapsed (time q) 7) (8 * unit) (total-is made-yes (d .starts .held))
+              (w .total);
         }
 
     pub made-jerks : Jerks (d .jf) (time q) (jerk q)
@@ -112,7 +135,9 @@ module _ {m : Move} {q : Profile} (d : Made m q) where
 
     pub made-residual : Residual residual (d .limits) q
     made-residual z =
-        subst (λ (a : Float). Replaced residual #0 (motion (time q) (jerk q) (state (node q 0 .p) (node q 0 .v) a) 3 .a)) (sym (ap (λ (n : Node). n .a) (made-starts .start)))
+        subst
+        (λ (a : Float). Replaced residual #0 (motion (time q) (jerk q) (state (node q 0 .p) (node q 0 .v) a) 3 .a))
+        (sym (ap (λ (n : Node). n .a) (made-starts .start)))
         (d .timed .replaced z (time q) made-accepted (jerk q) (node q 0 .p) (node q 0 .v) made-jerks)
 
     module _ (n : Numbers m) where
@@ -120,29 +145,45 @@ module _ {m : Move} {q : Profile} (d : Made m q) where
       pub made-recorded : (i : ℕ) → i ≤ 7 → Recorded residual (node q i) (exact q i)
       made-recorded =
           subst (λ (z : Profile). (i : ℕ) → i ≤ 7 → Recorded residual (node z i) (exact z i)) (sym (d .left))
-          (check-recorded (d .signs) (d .limits) (d .jf) (m .v-max) (m .v-min) (m .a-max) (m .a-min) (d .before) (d .starts .held) (d .held-jf) (n .of-v-max) (n .of-v-min) (n .of-a-max) (n .of-a-min) (d .said) residual (lit≤ tt)
-          (subst (λ (z : Profile). Within z) (d .left) w) (subst (λ (z : Profile). Residual residual (d .limits) z) (d .left) made-residual))
+          (check-recorded (d .signs) (d .limits) (d .jf) (m .«v_max») (m .«v_min») (m .«a_max») (m .«a_min») (d .before)
+          (d .starts .held) (d .held-jf) (n .of-v-max) (n .of-v-min) (n .of-a-max) (n .of-a-min) (d .said) residual
+          (lit≤ tt) (subst (λ (z : Profile). Within z) (d .left) w)
+          (subst (λ (z : Profile). Residual residual (d .limits) z) (d .left) made-residual))
 
       -- ---- the theorem, of any attempt
-      closely : Arrives (proved residual) (m .v-max) (m .v-min) (m .a-max) (m .a-min) q
+      closely : Arrives (proved residual) (m .«v_max») (m .«v_min») (m .«a_max») (m .«a_min») q
       closely =
-          subst (λ (z : Profile). Arrives (proved residual) (m .v-max) (m .v-min) (m .a-max) (m .a-min) z) (sym (d .left))
-          (check-arrives-closely (d .signs) (d .limits) (d .jf) (m .v-max) (m .v-min) (m .a-max) (m .a-min) (d .before) (d .starts .held) (d .held-jf) (n .of-v-max) (n .of-v-min) (n .of-a-max) (n .of-a-min) (d .said) residual (lit≤ tt)
-          (subst (λ (z : Profile). Within z) (d .left) w) (subst (λ (z : Profile). Residual residual (d .limits) z) (d .left) made-residual))
+          subst (λ (z : Profile). Arrives (proved residual) (m .«v_max») (m .«v_min») (m .«a_max») (m .«a_min») z)
+          (sym (d .left))
+          (check-arrives-closely (d .signs) (d .limits) (d .jf) (m .«v_max») (m .«v_min») (m .«a_max») (m .«a_min»)
+          (d .before) (d .starts .held) (d .held-jf) (n .of-v-max) (n .of-v-min) (n .of-a-max) (n .of-a-min) (d .said)
+          residual (lit≤ tt) (subst (λ (z : Profile). Within z) (d .left) w)
+          (subst (λ (z : Profile). Residual residual (d .limits) z) (d .left) made-residual))
 
       pub attempt-arrives-closely : Closely m q
-      attempt-arrives-closely = record { starts = made-starts; arrives = closely; duration = close made-lasts (record { m = roundings; d = 2 ^ 53 }) (made-lasts .bound) }
+      attempt-arrives-closely =
+          record {
+            starts = made-starts;
+            arrives = closely;
+            duration = close made-lasts (record { m = roundings; d = 2 ^ 53 }) (made-lasts .bound);
+          }
 
       pub attempt-arrives : Demand3 m q
       attempt-arrives =
           record {
             starts = made-starts;
-            arrives = wider (proved residual) in-place (m .v-max) (m .v-min) (m .a-max) (m .a-min) q distances closely;
-            duration = close made-lasts in-time (less (made-lasts .err) unit (2 ^ 53) roundings (in-time .d) (in-time .m) (pow-pos 53) (made-lasts .bound) (lit≤ tt));
+            arrives =
+                wider (proved residual) in-place (m .«v_max») (m .«v_min») (m .«a_max») (m .«a_min») q distances
+                closely;
+            duration =
+                close made-lasts in-time
+                (less (made-lasts .err) unit (2 ^ 53) roundings (in-time .d) (in-time .m) (pow-pos 53)
+                (made-lasts .bound) (lit≤ tt));
           }
 
 -- ---- and of whatever is made of attempts: a shape, or any other choice among them
-module _ {m : Move} (n : Numbers m) {f : Profile → Checked} (h : AlwaysSound m f) (q : Profile) (s : Starts m q) (accepted : f q .ok ≡ true) where
+module _ {m : Move} (n : Numbers m) {f : Profile → Checked} (h : AlwaysSound m f) (q : Profile) (s : Starts m q)
+    (accepted : f q .ok ≡ true) where
   pub sound-arrives : Within (f q .profile) → Demand3 m (f q .profile)
   sound-arrives w = attempt-arrives (h q s .made accepted) w n
 

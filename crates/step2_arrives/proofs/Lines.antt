@@ -1,4 +1,5 @@
--- Every line's profile starts its move, so the theorem holds of every line that asks one of the five shapes. Assumes nothing.
+-- Every line's profile starts its move, so the theorem holds of every line that asks one of the five shapes.
+-- Assumes nothing.
 use mathlib.Core.Path.{_≡_, refl}
 use mathlib.Core.Bool.{true}
 use Prim.Native.Nat.{ℕ}
@@ -10,8 +11,9 @@ use Rattle.profile_arrives.specs.Reply.{time, Within}
 use Rattle.profile_arrives.proofs.Steps.{by-seven}
 use Rattle.roots.specs.declared.RootAnswer.{RootAnswer}
 use Rattle.roots.proofs.Laws.{AnswerFits}
-use Rattle.position_third_step2.specs.declared.Shape.{Shape}
-use Rattle.step2_arrives.specs.Moves.{Move, Numbers, asked, Starts, fresh, Demand3}
+use Rattle.step2_solver.specs.declared.Move.{Move}
+use Rattle.step2_solver.specs.declared.Shape.{Shape}
+use Rattle.step2_arrives.specs.Moves.{Numbers, asked, Starts, fresh, Demand3}
 use Rattle.step2_arrives.proofs.Shapes.{shape-arrives}
 
 pub fresh-starts : {m : Move} → Numbers m → Starts m (fresh m)
@@ -28,7 +30,8 @@ fresh-starts {m} n =
             eight-a = refl;
             eight-v = refl;
             eight-p = refl;
-            held-t = by-seven (λ (i : ℕ). T (fits binary64 (time (fresh m) i))) none none none none none none none;
+            held-t =
+                by-seven (λ (i : ℕ). T (fits binary64 (time (fresh m) i))) none none none none none none none;
             held-a = n .of-a0 .0;
             held-v = n .of-v0 .0;
             held-p = n .of-p0 .0;
@@ -39,5 +42,8 @@ fresh-starts {m} n =
     }
 
 -- demand 3, of what a shape leaves in the profile of a line
-pub line-arrives : (shape : Shape) (first second : RootAnswer) → AnswerFits first → AnswerFits second → {m : Move} → Numbers m → asked shape first second m (fresh m) .ok ≡ true → Within (asked shape first second m (fresh m) .profile) → Demand3 m (asked shape first second m (fresh m) .profile)
+pub line-arrives : (shape : Shape) (first second : RootAnswer) → AnswerFits first → AnswerFits second → {m : Move}
+    → Numbers m → asked shape first second m (fresh m) .ok ≡ true
+    → Within (asked shape first second m (fresh m) .profile)
+    → Demand3 m (asked shape first second m (fresh m) .profile)
 line-arrives shape first second f g {m} n = shape-arrives shape first second f g n (fresh m) (fresh-starts n)

@@ -1,4 +1,5 @@
--- The theorem's premises can be met: document 01's move of kind 01, from rest at 0 to rest at 8 in 7 seconds, with the limits ±2 and ±1 and the jerk 1. The shape says yes, and the theorem applies. Assumes nothing.
+-- The theorem's premises can be met: document 01's move of kind 01, from rest at 0 to rest at 8 in 7 seconds, with the
+-- limits ±2 and ±1 and the jerk 1. The shape says yes, and the theorem applies. Assumes nothing.
 use mathlib.Core.Path.{_≡_, refl}
 use mathlib.Core.Bool.{true}
 use Prim.Native.Nat.{ℕ, _*_}
@@ -9,12 +10,12 @@ use Rattle.float.specs.Helpers.{absOf}
 use Rattle.sqrt.specs.Sqrt.{sqrtOf}
 use Rattle.util.specs.Integrate.{integrateOf}
 use Rattle.profile.specs.declared.Profile.{Profile}
-use Rattle.profile.specs.Labels.{testsOf}
-use Rattle.profile.specs.Signs.{jerksOf}
-use Rattle.profile.specs.Run.{run}
-use Rattle.profile.specs.Times.{sumStep, sumsOf, refusedOf}
-use Rattle.profile.specs.Limit.{bandOf}
-use Rattle.profile.specs.Phase.{replacedOf, zeroInsideOf, nodeOf, phaseOf}
+use Rattle.labels.specs.Tests.{testsOf}
+use Rattle.labels.specs.Jerks.{jerksOf}
+use Rattle.phases.specs.Run.{run}
+use Rattle.phases.specs.Times.{sumStep, sumsOf, refusedOf}
+use Rattle.phases.specs.Limit.{bandOf}
+use Rattle.phases.specs.Phase.{replacedOf, zeroInsideOf, nodeOf, phaseOf}
 use Rattle.profile.specs.Check.{arrivedOf, keptOf, checkOf}
 use Rattle.profile.specs.Boundary.{boundaryOf}
 use Rattle.roots.specs.declared.RootAnswer.{RootAnswer}
@@ -25,18 +26,33 @@ use Rattle.rounding.specs.Motion.{lasts}
 use Rattle.profile_arrives.specs.Reply.{jerk, Within}
 use Rattle.profile_arrives.proofs.Steps.{by-seven}
 use Rattle.step2_solver.specs.New.{newOf}
-use Rattle.step2_solver.specs.TimeAcc0Acc1Vel.{acc0Acc1VelUdduApplies, acc0Acc1VelUdduRadicand, acc0Acc1VelUdduH1, acc0Acc1VelUdduT1, acc0Acc1VelUdduTimes}
-use Rattle.position_third_step2.specs.declared.Shape.the-variants.{Acc0Acc1Vel}
-use Rattle.step2_attempt.specs.Attempt.{attemptOf}
-use Rattle.step2_shapes.specs.TimeAcc0Acc1Vel.{acc0Acc1VelUddu, timeAcc0Acc1VelOf}
-use Rattle.step2_arrives.specs.Moves.{Move, Numbers, asked, fresh, Demand3}
+use Rattle.step2_solver.specs.declared.Move.{Move}
+use Rattle.step2_solver.specs.declared.Shape.the-variants.{Acc0Acc1Vel}
+use Rattle.step2_solver.specs.TimeAcc0Acc1Vel.{acc0Acc1VelUdduApplies, acc0Acc1VelUdduRadicand, acc0Acc1VelUdduH1}
+use Rattle.step2_solver.specs.TimeAcc0Acc1Vel.{acc0Acc1VelUdduT1, acc0Acc1VelUdduTimes, acc0Acc1VelUddu}
+use Rattle.step2_attempt.specs.Attempt.{attemptOf, tryOf, triedOf}
+use Rattle.step2_arrives.specs.Moves.{Numbers, asked, fresh, Demand3}
 use Rattle.step2_arrives.proofs.Lines.{line-arrives}
 
 abbrev seven : Float
 seven = ofBits binary64 0x401C_0000_0000_0000
 
 abbrev move : Move
-move = record { tf = seven; p0 = #0; v0 = #0; a0 = #0; pf = #8; vf = #0; af = #0; v-max = #2; v-min = neg #2; a-max = #1; a-min = neg #1; j-max = #1 }
+move =
+    record {
+      tf = seven;
+      p0 = #0;
+      v0 = #0;
+      a0 = #0;
+      pf = #8;
+      vf = #0;
+      af = #0;
+      «v_max» = #2;
+      «v_min» = neg #2;
+      «a_max» = #1;
+      «a_min» = neg #1;
+      «j_max» = #1;
+    }
 
 -- this shape takes no root answer
 abbrev none : RootAnswer
@@ -47,7 +63,10 @@ left = asked Acc0Acc1Vel none none move (fresh move) .profile
 
 -- all of it computes
 met : (asked Acc0Acc1Vel none none move (fresh move) .ok ≡ true) × Within left × Numbers move
-unfolding timeAcc0Acc1VelOf acc0Acc1VelUddu acc0Acc1VelUdduApplies acc0Acc1VelUdduRadicand acc0Acc1VelUdduH1 acc0Acc1VelUdduT1 acc0Acc1VelUdduTimes newOf attemptOf boundaryOf checkOf sumsOf sumStep run refusedOf testsOf jerksOf phaseOf nodeOf replacedOf zeroInsideOf integrateOf bandOf arrivedOf keptOf absOf sqrtOf ofBits neg add sub mul div lt le fits unit mag sign val lasts
+unfolding triedOf tryOf acc0Acc1VelUddu acc0Acc1VelUdduApplies acc0Acc1VelUdduRadicand acc0Acc1VelUdduH1
+    acc0Acc1VelUdduT1 acc0Acc1VelUdduTimes newOf attemptOf boundaryOf checkOf sumsOf sumStep run refusedOf testsOf
+    jerksOf phaseOf nodeOf replacedOf zeroInsideOf integrateOf bandOf arrivedOf keptOf absOf sqrtOf ofBits neg add sub
+    mul div lt le fits unit mag sign val lasts
 met = (
   refl,
   record {
@@ -56,8 +75,14 @@ met = (
     start-a = record { over = lit≤ tt; under = lit≤ tt };
     total = lit≤ tt;
     jerks =
-        by-seven (λ (i : ℕ). Size (val (jerk left i)) (64 * unit)) (record { over = lit≤ tt; under = lit≤ tt }) (record { over = lit≤ tt; under = lit≤ tt }) (record { over = lit≤ tt; under = lit≤ tt }) (record { over = lit≤ tt; under = lit≤ tt })
-        (record { over = lit≤ tt; under = lit≤ tt }) (record { over = lit≤ tt; under = lit≤ tt }) (record { over = lit≤ tt; under = lit≤ tt });
+        by-seven (λ (i : ℕ). Size (val (jerk left i)) (64 * unit))
+        (record { over = lit≤ tt; under = lit≤ tt })
+        (record { over = lit≤ tt; under = lit≤ tt })
+        (record { over = lit≤ tt; under = lit≤ tt })
+        (record { over = lit≤ tt; under = lit≤ tt })
+        (record { over = lit≤ tt; under = lit≤ tt })
+        (record { over = lit≤ tt; under = lit≤ tt })
+        (record { over = lit≤ tt; under = lit≤ tt });
   },
   record {
     of-tf = (tt, tt);

@@ -1,5 +1,6 @@
--- The test that `check` makes inside a phase: a yes says of every phase from 2 on that the velocity where the recorded acceleration passes through 0 keeps its limits, wherever `check` tests it. Assumes nothing.
--- It is stated of the record that is left, so that it can be used beside `Yes` of crates/profile_arrives.
+-- The test that `check` makes inside a phase: a yes says of every phase from 2 on that the velocity where the
+-- recorded acceleration passes through 0 keeps its limits, wherever `check` tests it. It is stated of the record that
+-- is left, so that it can be used beside `Yes` of crates/profile_arrives. Assumes nothing.
 use mathlib.Core.Path.{_≡_, refl, sym, ap, _∙_, subst}
 use mathlib.Core.Bool.{Bool, true, false, cond, not, _&&_, _||_, true≢false}
 use mathlib.Core.Logic.{inl, inr}
@@ -8,109 +9,89 @@ use Prim.Native.Nat.{ℕ, zero, suc, _+_, _≤_, _<_, zero-le}
 use native.Mathlib.Nat.{le-refl, eq-or-lt-of-le}
 use native.Mathlib.Omega.{arith}
 use lib.ListN.{getD}
-use lib.Seq.{getD-set-other}
 use lib.Ieee.{Float, nan}
 use Rattle.util.specs.Integrate.{integrateOf}
-use Rattle.profile.specs.declared.ReachedLimits.{ReachedLimits}
-use Rattle.profile.specs.declared.ControlSigns.{ControlSigns}
-use Rattle.profile.specs.declared.tests.Tests.{Tests}
-use Rattle.profile.specs.declared.limit.Band.{Band}
+use Rattle.labels.specs.declared.ReachedLimits.{ReachedLimits}
+use Rattle.labels.specs.declared.ControlSigns.{ControlSigns}
+use Rattle.labels.specs.declared.tests.Tests.{Tests}
+use Rattle.phases.specs.declared.limit.Band.{Band}
 use Rattle.profile.specs.declared.Profile.{Profile}
 use Rattle.profile.specs.declared.Checked.{Checked}
-use Rattle.profile.specs.Labels.{testsOf}
-use Rattle.profile.specs.Signs.{jerksOf}
-use Rattle.profile.specs.Run.{Step, run}
-use Rattle.profile.specs.Times.{sumsOf, refusedOf}
-use Rattle.profile.specs.Limit.{directionOf, bandOf}
-use Rattle.profile.specs.Phase.{Nodes, replacedOf, zeroInsideOf, nodeOf, phaseOf}
-use Rattle.profile.specs.Check.{profileOf, nodesOf, goalOf, labelsOf, labels, arrivedOf, keptOf, checkOf}
+use Rattle.labels.specs.Tests.{testsOf}
+use Rattle.labels.specs.Jerks.{jerksOf}
+use Rattle.phases.specs.Run.{Step, run}
+use Rattle.phases.specs.Times.{sumsOf, refusedOf}
+use Rattle.phases.specs.Limit.{directionOf, bandOf}
+use Rattle.phases.specs.Phase.{Nodes, replacedOf, zeroInsideOf, nodeOf, phaseOf}
+use Rattle.labels.specs.Labels.{labels}
+use Rattle.profile.specs.Parts.{profileOf, nodesOf, goalOf, labelsOf}
+use Rattle.profile.specs.Check.{arrivedOf, keptOf, checkOf}
 use Rattle.rounding.specs.Step.{Node, nextA, nextV, nextP}
 use Rattle.profile_arrives.specs.Reply.{jerk, node, Held}
-use Rattle.profile_arrives.proofs.Steps.{at, stored}
+use Rattle.profile_arrives.proofs.Steps.{never, later, first, rest, at, stored, stays}
 use Rattle.profile_arrives.proofs.Yes.{Yes, check-yes}
-use Rattle.step2_arrives.specs.Moves.{Move}
+use Rattle.step2_solver.specs.declared.Move.{Move}
 use Rattle.step2_arrives.proofs.Made.{Made}
 
 -- ---- steps that store entry i + 1 and test entry i
-never : (i l : ℕ) → i ≤ l → l < i + 0 → ⊥
-never i l a b = omega arith
-
-later : (k i l : ℕ) → i < l → l < i + suc k → (i + 1 ≤ l) × (l < i + 1 + k)
-later k i l a b = omega arith
-
-made : {a a' v v' p p' : Float} → a ≡ a' → v ≡ v' → p ≡ p' → _≡_ {A = Node} (record { a = a; v = v; p = p }) (record { a = a'; v = v'; p = p' })
-made e f g = cc
-
-module _ (f : ℕ → Nodes → Step Nodes) (g : ℕ → Node → Node) (test : ℕ → Node → Bool) (is : (i : ℕ) (n : Nodes) → f i n .left ≡ stored n (i + 1) (g i (at n i))) (tests : (i : ℕ) (n : Nodes) → f i n .ok ≡ test i (at n i)) where
-  -- entries up to where the run begins stay
-  stays : (k i : ℕ) (n : Nodes) (l : ℕ) → l ≤ i → at (run f k i n .left) l ≡ at n l
-  unfolding run
-  stays zero i n l a = refl
-  stays (suc k) i n l a = go (f i n .ok) (stays k (i + 1) (f i n .left) l (more l i a) ∙ one)
-    where
-      more : (l i : ℕ) → l ≤ i → l ≤ i + 1
-      more l i a = omega arith
-
-      apart : (l i : ℕ) → l ≤ i → l ≡ i + 1 → ⊥
-      apart l i a e = omega arith
-
-      other : (s : Node) → at (stored n (i + 1) s) l ≡ at n l
-      other s = let h = apart l i a in made (getD-set-other (n .a) (i + 1) l (s .a) nan h) (getD-set-other (n .v) (i + 1) l (s .v) nan h) (getD-set-other (n .p) (i + 1) l (s .p) nan h)
-
-      one : at (f i n .left) l ≡ at n l
-      one = ap (λ (z : Nodes). at z l) (is i n) ∙ other (g i (at n i))
-
-      go : (b : Bool) → at (run f k (i + 1) (f i n .left) .left) l ≡ at n l → at (cond b (run f k (i + 1) (f i n .left)) (f i n) .left) l ≡ at n l
-      go true h = h
-      go false h = one
-
-  went : (b : Bool) (s y : Step Nodes) → s .ok ≡ b → cond b y s .ok ≡ true → (b ≡ true) × (cond b y s ≡ y)
-  went true s y e h = (refl, refl)
-  went false s y e h = absurd (true≢false (sym h ∙ e))
-
-  first : (k i : ℕ) (n : Nodes) → run f (suc k) i n .ok ≡ true → (f i n .ok ≡ true) × (run f (suc k) i n ≡ run f k (i + 1) (f i n .left))
-  unfolding run
-  first k i n h = went (f i n .ok) (f i n) (run f k (i + 1) (f i n .left)) refl h
-
+module _ (f : ℕ → Nodes → Step Nodes) (g : ℕ → Node → Node) (test : ℕ → Node → Bool)
+    (is : (i : ℕ) (n : Nodes) → f i n .left ≡ stored n (i + 1) (g i (at n i)))
+    (tests : (i : ℕ) (n : Nodes) → f i n .ok ≡ test i (at n i)) where
   -- a run that says yes has tested every entry that it left
-  tested : (k i : ℕ) (n : Nodes) → run f k i n .ok ≡ true → (l : ℕ) → i ≤ l → l < i + k → test l (at (run f k i n .left) l) ≡ true
+  tested : (k i : ℕ) (n : Nodes) → run f k i n .ok ≡ true → (l : ℕ) → i ≤ l → l < i + k
+      → test l (at (run f k i n .left) l) ≡ true
   tested zero i n h l a b = absurd (never i l a b)
   tested (suc k) i n h l a b =
-      let w = first k i n h in
+      let w = first f k i n h in
       elim (eq-or-lt-of-le a) [
-        | inl e ↦ subst (λ (z : ℕ). test z (at (run f (suc k) i n .left) z) ≡ true) e (ap (test i) (stays (suc k) i n i (le-refl i)) ∙ sym (tests i n) ∙ w .0)
+        | inl e ↦
+            subst (λ (z : ℕ). test z (at (run f (suc k) i n .left) z) ≡ true) e
+            (ap (test i) (stays f g is (suc k) i n i (le-refl i)) ∙ sym (tests i n) ∙ w .0)
         | inr c ↦
             subst (λ (s : Step Nodes). test l (at (s .left) l) ≡ true) (sym (w .1))
-            (tested k (i + 1) (f i n .left) (subst (λ (s : Step Nodes). s .ok ≡ true) (w .1) h) l (later k i l c b .0) (later k i l c b .1))
+            (tested k (i + 1) (f i n .left) (rest f k i n h) l (later k i l c b .0) (later k i l c b .1))
       ]
 
 -- ---- the phases of `check`
 module _ (m : Tests) (a-max a-min : Float) (b : Band) (t j : List Float) where
   abbrev next : ℕ → Node → Node
-  next i s = record { a = replacedOf m false a-max a-min i (nextA (getD t i nan) (s .a) (getD j i nan)); v = nextV (getD t i nan) (s .v) (s .a) (getD j i nan); p = nextP (getD t i nan) (s .p) (s .v) (s .a) (getD j i nan) }
+  next i s =
+      record {
+        a = replacedOf m false a-max a-min i (nextA (getD t i nan) (s .a) (getD j i nan));
+        v = nextV (getD t i nan) (s .v) (s .a) (getD j i nan);
+        p = nextP (getD t i nan) (s .p) (s .v) (s .a) (getD j i nan);
+      }
 
   abbrev inside : ℕ → Node → Bool
   inside i s = zeroInsideOf i (s .v) (s .a) (next i s .a) (getD j i nan) b
 
-  phases-tested : (n : Nodes) → run (phaseOf m false a-max a-min b t j) 7 0 n .ok ≡ true → (i : ℕ) → i < 7 → inside i (at (run (phaseOf m false a-max a-min b t j) 7 0 n .left) i) ≡ true
+  phases-tested : (n : Nodes) → run (phaseOf m false a-max a-min b t j) 7 0 n .ok ≡ true → (i : ℕ) → i < 7
+      → inside i (at (run (phaseOf m false a-max a-min b t j) 7 0 n .left) i) ≡ true
   unfolding phaseOf nodeOf integrateOf
-  phases-tested n h i l = tested (phaseOf m false a-max a-min b t j) next inside (λ i n. refl) (λ i n. refl) 7 0 n h i zero-le l
+  phases-tested n h i l =
+      tested (phaseOf m false a-max a-min b t j) next inside (λ i n. refl) (λ i n. refl) 7 0 n h i zero-le l
 
 -- ---- a yes of `check`
 abbrev ways : Bool → Bool → Bool → Profile → Profile → Profile → Checked
-ways b c d x y z = cond b (record { ok = false; profile = x }) (cond c (record { ok = d; profile = y }) (record { ok = false; profile = z }))
+ways b c d x y z =
+    cond b (record { ok = false; profile = x })
+    (cond c (record { ok = d; profile = y }) (record { ok = false; profile = z }))
 
-last-way : (b c d : Bool) (x y z : Profile) → ways b c d x y z .ok ≡ true → (c ≡ true) × (ways b c d x y z .profile ≡ y)
+last-way : (b c d : Bool) (x y z : Profile) → ways b c d x y z .ok ≡ true
+    → (c ≡ true) × (ways b c d x y z .profile ≡ y)
 last-way true c d x y z h = absurd (true≢false (sym h))
 last-way false true d x y z h = (refl, refl)
 last-way false false d x y z h = absurd (true≢false (sym h))
 
 -- phase i of the profile q passed the test, or was not put to it
 abbrev pub ZeroInside : Float → Float → Profile → ℕ → Type 0
-ZeroInside v-max v-min q i = zeroInsideOf i (node q i .v) (node q i .a) (node q (suc i) .a) (jerk q i) (bandOf v-max v-max v-min) ≡ true
+ZeroInside v-max v-min q i =
+    zeroInsideOf i (node q i .v) (node q i .a) (node q (suc i) .a) (jerk q i) (bandOf v-max v-max v-min) ≡ true
 
-module _ (signs : ControlSigns) (limits : ReachedLimits) (jf v-max v-min a-max a-min : Float) (q : Profile) (h : Held q) where
-  pub check-zero-inside : checkOf signs limits false jf v-max v-min a-max a-min q .ok ≡ true → (i : ℕ) → i < 7 → ZeroInside v-max v-min (checkOf signs limits false jf v-max v-min a-max a-min q .profile) i
+module _ (signs : ControlSigns) (limits : ReachedLimits) (jf v-max v-min a-max a-min : Float) (q : Profile)
+    (h : Held q) where
+  pub check-zero-inside : checkOf signs limits false jf v-max v-min a-max a-min q .ok ≡ true → (i : ℕ) → i < 7
+      → ZeroInside v-max v-min (checkOf signs limits false jf v-max v-min a-max a-min q .profile) i
   unfolding checkOf replacedOf
   check-zero-inside said i l =
       let sums = sumsOf (q .t) (q .«t_sum») in
@@ -118,15 +99,23 @@ module _ (signs : ControlSigns) (limits : ReachedLimits) (jf v-max v-min a-max a
       let b = bandOf v-max v-max v-min in
       let nodes = run (phaseOf (testsOf limits) false a-max a-min b (q .t) j) 7 0 (nodesOf q) in
       let y = profileOf (q .t) (sums .left) j (nodes .left) (goalOf q) (labels limits (directionOf v-max) signs) in
-      let w = last-way (not (sums .ok) || refusedOf (testsOf limits) (q .t) (sums .left)) (nodes .ok) (arrivedOf (nodes .left) (goalOf q) && keptOf (nodes .left) (bandOf v-max a-max a-min) b)
+      let w = last-way (not (sums .ok) || refusedOf (testsOf limits) (q .t) (sums .left)) (nodes .ok)
+      (arrivedOf (nodes .left) (goalOf q) && keptOf (nodes .left) (bandOf v-max a-max a-min) b)
       (profileOf (q .t) (sums .left) (q .j) (nodesOf q) (goalOf q) (labelsOf q)) y
-      (profileOf (q .t) (sums .left) j (nodes .left) (goalOf q) (labels (q .limits) (directionOf v-max) (q .«control_signs»))) said in
-      let made = subst (λ (z : Profile). Yes signs limits jf v-max v-min a-max a-min q z) (w .1) (check-yes signs limits jf v-max v-min a-max a-min q h said) in
+      (profileOf (q .t) (sums .left) j (nodes .left) (goalOf q)
+      (labels (q .limits) (directionOf v-max) (q .«control_signs»)))
+      said in
+      let made = subst (λ (z : Profile). Yes signs limits jf v-max v-min a-max a-min q z) (w .1)
+      (check-yes signs limits jf v-max v-min a-max a-min q h said) in
       subst (λ (z : Profile). ZeroInside v-max v-min z i) (sym (w .1))
-      (ap (λ (x : Float). zeroInsideOf i (node y i .v) (node y i .a) x (jerk y i) b) (ap (λ (n : Node). n .a) (made .step i l)) ∙ phases-tested (testsOf limits) a-max a-min b (q .t) j (nodesOf q) (w .0) i l)
+      (ap (λ (x : Float). zeroInsideOf i (node y i .v) (node y i .a) x (jerk y i) b)
+      (ap (λ (n : Node). n .a) (made .step i l))
+      ∙ phases-tested (testsOf limits) a-max a-min b (q .t) j (nodesOf q) (w .0) i l)
 
 -- and so of every attempt that says yes
-pub made-zero-inside : {m : Move} {q : Profile} → Made m q → (i : ℕ) → i < 7 → ZeroInside (m .v-max) (m .v-min) q i
+pub made-zero-inside : {m : Move} {q : Profile} → Made m q → (i : ℕ) → i < 7
+    → ZeroInside (m .«v_max») (m .«v_min») q i
 made-zero-inside {m} d i l =
-    subst (λ (z : Profile). ZeroInside (m .v-max) (m .v-min) z i) (sym (d .left))
-    (check-zero-inside (d .signs) (d .limits) (d .jf) (m .v-max) (m .v-min) (m .a-max) (m .a-min) (d .before) (d .starts .held) (d .said) i l)
+    subst (λ (z : Profile). ZeroInside (m .«v_max») (m .«v_min») z i) (sym (d .left))
+    (check-zero-inside (d .signs) (d .limits) (d .jf) (m .«v_max») (m .«v_min») (m .«a_max») (m .«a_min») (d .before)
+    (d .starts .held) (d .said) i l)

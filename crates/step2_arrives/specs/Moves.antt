@@ -1,4 +1,5 @@
--- A move by its twelve numbers, a profile that starts it, and what it is to arrive: at the goal, within the limits and in the duration. Definitions only.
+-- A move by its twelve numbers, a profile that starts it, and what it is to arrive: at the goal, within the limits and
+-- in the duration. Definitions only.
 use mathlib.Core.Path.{_≡_}
 use Prim.Native.Nat.{_*_, _^_}
 use lib.Ieee.{Float}
@@ -12,26 +13,11 @@ use Rattle.rounding.specs.Step.{Node}
 use Rattle.profile_arrives.specs.Reply.{time, node, Held, Number}
 use Rattle.profile_arrives.specs.Arrives.{Fraction, _over_, Distances, Arrives, demanded, proved}
 use Rattle.roots.specs.declared.RootAnswer.{RootAnswer}
-use Rattle.step2_solver.specs.declared.PositionThirdOrderStep2.{PositionThirdOrderStep2}
-use Rattle.step2_solver.specs.New.{newOf}
+use Rattle.step2_solver.specs.declared.Move.{Move}
+use Rattle.step2_solver.specs.declared.Shape.{Shape}
+use Rattle.step2_solver.specs.New.{solverOf, limitsOf}
 use Rattle.step2_times.specs.Facts.{roundings, residual}
-use Rattle.position_third_step2.specs.declared.Shape.{Shape}
-use Rattle.position_third_step2.specs.Shape.{shapeOf}
-
--- the numbers of a line, in the order of `new`: the duration, the start, the goal, the limits
-pub record Move : Type 0 where
-  pub tf : Float
-  pub p0 : Float
-  pub v0 : Float
-  pub a0 : Float
-  pub pf : Float
-  pub vf : Float
-  pub af : Float
-  pub v-max : Float
-  pub v-min : Float
-  pub a-max : Float
-  pub a-min : Float
-  pub j-max : Float
+use Rattle.position_third_step2.specs.Shape.{askedOf}
 
 -- each is a finite f64: document 01's sixth question
 pub record Numbers (m : Move) : Type 0 where
@@ -42,18 +28,15 @@ pub record Numbers (m : Move) : Type 0 where
   pub of-pf : Number (m .pf)
   pub of-vf : Number (m .vf)
   pub of-af : Number (m .af)
-  pub of-v-max : Number (m .v-max)
-  pub of-v-min : Number (m .v-min)
-  pub of-a-max : Number (m .a-max)
-  pub of-a-min : Number (m .a-min)
-  pub of-j-max : Number (m .j-max)
-
-abbrev pub solver : Move → PositionThirdOrderStep2
-solver m = newOf (m .tf) (m .p0) (m .v0) (m .a0) (m .pf) (m .vf) (m .af) (m .j-max)
+  pub of-v-max : Number (m .«v_max»)
+  pub of-v-min : Number (m .«v_min»)
+  pub of-a-max : Number (m .«a_max»)
+  pub of-a-min : Number (m .«a_min»)
+  pub of-j-max : Number (m .«j_max»)
 
 -- a shape asked for the move m, on the profile q: it is passed the same limits as `new`
 abbrev pub asked : Shape → RootAnswer → RootAnswer → Move → Profile → Checked
-asked shape first second m q = shapeOf shape (solver m) first second (m .v-max) (m .v-min) (m .a-max) (m .a-min) (m .j-max) q
+asked shape first second m q = askedOf shape (solverOf m) (limitsOf m) first second q
 
 -- the node n is the start of the move m
 abbrev pub StartOf : Move → Node → Type 0
@@ -75,10 +58,11 @@ fresh m = boundaryOf (m .p0) (m .v0) (m .a0) (m .pf) (m .vf) (m .af) defaultOf
 abbrev pub Close : Fraction → D → Float → Type 0
 Close f X x = Near (f .d ⊙ X) (f .d ⊙ val x) (f .m * unit)
 
--- The exact motion by the times and the jerks of q, from the start of m, arrives at the goal of m and keeps the limits of m within w; it lasts the duration of m within s.
+-- The exact motion by the times and the jerks of q, from the start of m, arrives at the goal of m and keeps the limits
+-- of m within w; it lasts the duration of m within s.
 pub record Arrival (w : Distances) (s : Fraction) (m : Move) (q : Profile) : Type 0 where
   pub starts : Starts m q
-  pub arrives : Arrives w (m .v-max) (m .v-min) (m .a-max) (m .a-min) q
+  pub arrives : Arrives w (m .«v_max») (m .«v_min») (m .«a_max») (m .«a_min») q
   pub duration : Close s (lasts (time q) 7) (m .tf)
 
 -- demand 3: the demanded distances, and 1e-10 seconds
@@ -91,7 +75,8 @@ in-time = 1 over 10_000_000_000
 abbrev pub Demand3 : Move → Profile → Type 0
 Demand3 m q = Arrival in-place in-time m q
 
--- What is proved: `check`'s own tolerances and the rounding errors. That is 1.04e-8 of the position, 1.003e-8 of the velocity, 1.02e-10 of the acceleration,
--- 2.9e-11 of the velocity limits and 2.8e-12 of the acceleration limits; and 1.2e-13 seconds.
+-- What is proved: `check`'s own tolerances and the rounding errors. That is 1.04e-8 of the position, 1.003e-8 of the
+-- velocity, 1.02e-10 of the acceleration, 2.9e-11 of the velocity limits and 2.8e-12 of the acceleration limits; and
+-- 1.2e-13 seconds.
 abbrev pub Closely : Move → Profile → Type 0
 Closely m q = Arrival (proved residual) (roundings over 2 ^ 53) m q

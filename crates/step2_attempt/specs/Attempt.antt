@@ -1,26 +1,44 @@
--- One attempt of a shape: seven times put into the profile and checked, and what comes of attempts made one after the other. Definitions only.
+-- A trial made on a profile: seven times put into it and checked; and what comes of trials made one after the other.
+-- Definitions only.
 use mathlib.Core.Bool.{false, cond}
 use mathlib.Core.List.{List, [], _∷_}
 use lib.Ieee.{Float}
-use Rattle.profile.specs.declared.ReachedLimits.{ReachedLimits}
-use Rattle.profile.specs.declared.ControlSigns.{ControlSigns}
+use Rattle.labels.specs.declared.ReachedLimits.{ReachedLimits}
+use Rattle.labels.specs.declared.ControlSigns.{ControlSigns}
 use Rattle.profile.specs.declared.Profile.{Profile}
 use Rattle.profile.specs.declared.Checked.{Checked}
-use Rattle.profile.specs.Check.{profileOf, nodesOf, goalOf, labelsOf, checkOf}
+use Rattle.profile.specs.Parts.{profileOf, nodesOf, goalOf, labelsOf}
+use Rattle.profile.specs.Check.{checkOf}
+use Rattle.step2_solver.specs.declared.Limits.{Limits}
 use Rattle.step2_solver.specs.declared.Times.{Times}
+use Rattle.step2_solver.specs.declared.Trial.{Trial}
 
 abbrev pub timesOf : Times → List Float
 timesOf x = x .t0 ∷ x .t1 ∷ x .t2 ∷ x .t3 ∷ x .t4 ∷ x .t5 ∷ x .t6 ∷ []
 
+-- q with the times x
+abbrev pub withTimes : Times → Profile → Profile
+withTimes x q = profileOf (timesOf x) (q .«t_sum») (q .j) (nodesOf q) (goalOf q) (labelsOf q)
+
 -- `check_with_timing` after profile.t is set
-unfoldable pub attemptOf : ControlSigns → ReachedLimits → Times → Float → Float → Float → Float → Float → Profile → Checked
-attemptOf signs limits x jf v-max v-min a-max a-min q =
-    checkOf signs limits false jf v-max v-min a-max a-min (profileOf (timesOf x) (q .«t_sum») (q .j) (nodesOf q) (goalOf q) (labelsOf q))
+unfoldable pub attemptOf : Limits → Trial → Profile → Checked
+attemptOf l k q =
+    checkOf (k .signs) (k .label) false (k .jf) (l .«v_max») (l .«v_min») (l .«a_max») (l .«a_min»)
+    (withTimes (k .times) q)
 
 -- no attempt
 abbrev pub nothing : Profile → Checked
 nothing q = record { ok = false; profile = q }
 
--- a yes ends the shape; after a no the next attempt is made on the record that the no left
+-- a yes ends it; after a no the next attempt is made on the record that the no left
 abbrev pub orElse : Checked → (Profile → Checked) → Checked
 orElse c next = cond (c .ok) c (next (c .profile))
+
+-- one trial, where it is made
+unfoldable pub tryOf : Limits → Trial → Profile → Checked
+tryOf l k q = cond (k .made) (attemptOf l k q) (nothing q)
+
+-- trials in turn
+unfoldable pub triedOf : Limits → List Trial → Profile → Checked
+triedOf l [] q = nothing q
+triedOf l (k ∷ ks) q = orElse (tryOf l k q) (triedOf l ks)

@@ -1,4 +1,5 @@
--- What `new` keeps: the boundary numbers and their powers, each operation rounded once in the Rust's order. Definitions only.
+-- What `new` keeps: the boundary numbers and their powers, each operation rounded once in the Rust's order.
+-- Definitions only.
 use lib.Ieee.{Float, neg}
 use Rattle.float.specs.Ops.{_⊕_, _⊖_, _⊗_, #2}
 use Rattle.step2_solver.specs.declared.PositionThirdOrderStep2.{PositionThirdOrderStep2}

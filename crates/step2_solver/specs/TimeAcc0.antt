@@ -1,10 +1,16 @@
--- What `time_acc0` computes, by the Rust's names, each operation rounded once in the Rust's order and brackets. Definitions only.
+-- What `time_acc0` computes, by the Rust's names, each operation rounded once in
+-- the Rust's order and brackets, and the attempts made of it. Definitions only.
 use lib.Ieee.{Float, neg}
 use Rattle.float.specs.Ops.{_⊕_, _⊖_, _⊗_, _⊘_, #0, #2, #3, #4, #6, #9, #18}
 use Rattle.float.specs.Helpers.{absOf}
 use Rattle.sqrt.specs.Sqrt.{sqrtOf}
 use Rattle.step2_solver.specs.declared.PositionThirdOrderStep2.{PositionThirdOrderStep2}
 use Rattle.step2_solver.specs.declared.Times.{Times}
+use Rattle.step2_solver.specs.declared.Limits.{Limits}
+use Rattle.step2_solver.specs.declared.Trial.{Trial}
+use Rattle.step2_solver.specs.Trials.{trialOf}
+use Rattle.labels.specs.declared.ReachedLimits.the-variants.{Acc0, None}
+use Rattle.labels.specs.declared.ControlSigns.the-variants.{UDDU, UDUD}
 
 -- First attempt: UDUD
 
@@ -24,6 +30,12 @@ acc0FirstTimes s «a_max» «j_max» h1 =
     let t5 = #0 in
     let t6 = #0 in
     record { t0 = t0; t1 = t1; t2 = t2; t3 = t3; t4 = t4; t5 = t5; t6 = t6 }
+
+unfoldable pub acc0First : PositionThirdOrderStep2 → Limits → Trial
+acc0First s l =
+    let h1 = acc0FirstH1 s (l .«a_max») (l .«j_max») in
+    let times = acc0FirstTimes s (l .«a_max») (l .«j_max») h1 in
+    trialOf times UDUD None (l .«j_max»)
 
 -- Second attempt: UDDU by its signs, where the Rust's comment says UDUD
 
@@ -70,6 +82,16 @@ acc0SecondTimes s «a_max» «j_max» h0 h1 t1 =
     let t6 = s .tf ⊖ (t0 ⊕ t1 ⊕ t2 ⊕ t3) in
     record { t0 = t0; t1 = t1; t2 = t2; t3 = t3; t4 = t4; t5 = t5; t6 = t6 }
 
+unfoldable pub acc0Second : PositionThirdOrderStep2 → Limits → Trial
+acc0Second s l =
+    let h0a = acc0SecondH0a s (l .«a_max») (l .«j_max») in
+    let h0b = acc0SecondH0b s (l .«a_max») (l .«j_max») in
+    let h0 = acc0SecondH0 (l .«j_max») h0a h0b in
+    let h1 = acc0SecondH1 (l .«j_max») h0a in
+    let t1 = acc0SecondT1 s (l .«a_max») (l .«j_max») h1 in
+    let times = acc0SecondTimes s (l .«a_max») (l .«j_max») h0 h1 t1 in
+    trialOf times UDDU None (l .«j_max»)
+
 -- Third attempt: UDDU, Solution 1, a[3] other than 0
 
 unfoldable pub acc0ThirdH0a : PositionThirdOrderStep2 → («a_max» «j_max» : Float) → Float
@@ -106,3 +128,12 @@ acc0ThirdTimes s «a_max» «j_max» h0a h1 h2 =
     let t5 = #0 in
     let t6 = #0 in
     record { t0 = t0; t1 = t1; t2 = t2; t3 = t3; t4 = t4; t5 = t5; t6 = t6 }
+
+unfoldable pub acc0Third : PositionThirdOrderStep2 → Limits → Trial
+acc0Third s l =
+    let h0a = acc0ThirdH0a s (l .«a_max») (l .«j_max») in
+    let h0b = acc0ThirdH0b s (l .«a_max») (l .«j_max») in
+    let h1 = acc0ThirdH1 (l .«j_max») h0a h0b in
+    let h2 = acc0ThirdH2 (l .«j_max») h0b in
+    let times = acc0ThirdTimes s (l .«a_max») (l .«j_max») h0a h1 h2 in
+    trialOf times UDDU Acc0 (l .«j_max»)

@@ -1,4 +1,5 @@
--- What `time_acc0_acc1` computes, by the Rust's names, each operation rounded once in the Rust's order and brackets. Definitions only.
+-- What `time_acc0_acc1` computes, by the Rust's names, each operation rounded once in
+-- the Rust's order and brackets, and the attempts made of it. Definitions only.
 use mathlib.Core.Bool.{Bool, _&&_}
 use lib.Ieee.{Float, neg, lt}
 use Rattle.float.specs.Ops.{_⊕_, _⊖_, _⊗_, _⊘_, #0, #2, #3, #4, #6, #8, #12, #48, #144, #ε}
@@ -6,6 +7,11 @@ use Rattle.float.specs.Helpers.{absOf}
 use Rattle.sqrt.specs.Sqrt.{sqrtOf}
 use Rattle.step2_solver.specs.declared.PositionThirdOrderStep2.{PositionThirdOrderStep2}
 use Rattle.step2_solver.specs.declared.Times.{Times}
+use Rattle.step2_solver.specs.declared.Limits.{Limits}
+use Rattle.step2_solver.specs.declared.Trial.{Trial}
+use Rattle.step2_solver.specs.Trials.{trialOf}
+use Rattle.labels.specs.declared.ReachedLimits.the-variants.{Acc0Acc1}
+use Rattle.labels.specs.declared.ControlSigns.the-variants.{UDDU}
 
 -- Both end accelerations below EPS in size: the rest formula, and no other attempt
 
@@ -35,6 +41,15 @@ acc0Acc1RestTimes s «a_max» «a_min» jf t1 =
     let t5 = s .tf ⊖ (#2 ⊗ t0 ⊕ t1 ⊕ #2 ⊗ t4) in
     let t6 = t4 in
     record { t0 = t0; t1 = t1; t2 = t2; t3 = t3; t4 = t4; t5 = t5; t6 = t6 }
+
+unfoldable pub acc0Acc1Rest : PositionThirdOrderStep2 → Limits → Trial
+acc0Acc1Rest s l =
+    let h1 = acc0Acc1RestH1 s (l .«a_max») (l .«a_min») in
+    let h2 = acc0Acc1RestH2 s (l .«a_max») (l .«a_min») in
+    let jf = acc0Acc1RestJf h1 h2 in
+    let t1 = acc0Acc1RestT1 s (l .«a_max») (l .«a_min») h1 h2 in
+    let times = acc0Acc1RestTimes s (l .«a_max») (l .«a_min») jf t1 in
+    trialOf times UDDU Acc0Acc1 jf
 
 -- UDDU
 
@@ -96,3 +111,11 @@ acc0Acc1UdduTimes s «a_max» «a_min» jf t1 =
     let t5 = s .tf ⊖ (t0 ⊕ t1 ⊕ t2 ⊕ #2 ⊗ t4 ⊕ s .af ⊘ jf) in
     let t6 = t4 ⊕ s .af ⊘ jf in
     record { t0 = t0; t1 = t1; t2 = t2; t3 = t3; t4 = t4; t5 = t5; t6 = t6 }
+
+unfoldable pub acc0Acc1Uddu : PositionThirdOrderStep2 → Limits → Trial
+acc0Acc1Uddu s l =
+    let h1 = acc0Acc1UdduH1 s (l .«a_max») (l .«a_min») in
+    let jf = acc0Acc1UdduJf s (l .«a_max») (l .«a_min») h1 in
+    let t1 = acc0Acc1UdduT1 s (l .«a_max») (l .«a_min») jf in
+    let times = acc0Acc1UdduTimes s (l .«a_max») (l .«a_min») jf t1 in
+    trialOf times UDDU Acc0Acc1 jf

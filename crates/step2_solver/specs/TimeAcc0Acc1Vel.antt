@@ -1,11 +1,17 @@
--- What `time_acc0_acc1_vel` computes, by the Rust's names, each operation rounded once in the Rust's order and brackets. Definitions only.
-use mathlib.Core.Bool.{Bool}
+-- What `time_acc0_acc1_vel` computes, by the Rust's names, each operation rounded once in
+-- the Rust's order and brackets, and the attempts made of it. Definitions only.
+use mathlib.Core.Bool.{Bool, cond}
 use lib.Ieee.{Float, neg, lt}
 use Rattle.float.specs.Ops.{_⊕_, _⊖_, _⊗_, _⊘_, #2, #3, #4, #6, #8, #12, #24}
 use Rattle.float.specs.Helpers.{absOf}
 use Rattle.sqrt.specs.Sqrt.{sqrtOf}
 use Rattle.step2_solver.specs.declared.PositionThirdOrderStep2.{PositionThirdOrderStep2}
 use Rattle.step2_solver.specs.declared.Times.{Times}
+use Rattle.step2_solver.specs.declared.Limits.{Limits}
+use Rattle.step2_solver.specs.declared.Trial.{Trial}
+use Rattle.step2_solver.specs.Trials.{trialOf, noTrial}
+use Rattle.labels.specs.declared.ReachedLimits.the-variants.{Acc0Acc1Vel}
+use Rattle.labels.specs.declared.ControlSigns.the-variants.{UDDU, UDUD}
 
 -- Profile UDDU, Solution 1
 
@@ -59,6 +65,15 @@ acc0Acc1VelUdduTimes s «a_max» «a_min» «j_max» h1 t1 =
     let t6 = t4 ⊕ s .af ⊘ «j_max» in
     record { t0 = t0; t1 = t1; t2 = t2; t3 = t3; t4 = t4; t5 = t5; t6 = t6 }
 
+unfoldable pub acc0Acc1VelUddu : PositionThirdOrderStep2 → Limits → Trial
+acc0Acc1VelUddu s l =
+    let h1 = acc0Acc1VelUdduH1 s (l .«a_max») (l .«a_min») (l .«j_max») in
+    let t1 = acc0Acc1VelUdduT1 s (l .«a_max») (l .«a_min») (l .«j_max») h1 in
+    let times = acc0Acc1VelUdduTimes s (l .«a_max») (l .«a_min») (l .«j_max») h1 t1 in
+    cond (acc0Acc1VelUdduApplies s (l .«a_max») (l .«a_min») (l .«j_max»))
+    (trialOf times UDDU Acc0Acc1Vel (l .«j_max»))
+    noTrial
+
 -- Profile UDUD
 
 -- Whether this attempt is made.
@@ -94,3 +109,12 @@ acc0Acc1VelUdudTimes s «a_max» «j_max» t1 t3 =
     let t5 = s .tf ⊖ (t0 ⊕ t1 ⊕ t2 ⊕ t3 ⊕ #2 ⊗ t4 ⊖ s .af ⊘ «j_max») in
     let t6 = t4 ⊖ s .af ⊘ «j_max» in
     record { t0 = t0; t1 = t1; t2 = t2; t3 = t3; t4 = t4; t5 = t5; t6 = t6 }
+
+unfoldable pub acc0Acc1VelUdud : PositionThirdOrderStep2 → Limits → Trial
+acc0Acc1VelUdud s l =
+    let t1 = acc0Acc1VelUdudT1 s (l .«a_max») (l .«j_max») in
+    let t3 = acc0Acc1VelUdudT3 s (l .«a_max») (l .«j_max») in
+    let times = acc0Acc1VelUdudTimes s (l .«a_max») (l .«j_max») t1 t3 in
+    cond (acc0Acc1VelUdudApplies s (l .«a_max») (l .«j_max»))
+    (trialOf times UDUD Acc0Acc1Vel (l .«j_max»))
+    noTrial

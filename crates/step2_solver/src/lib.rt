@@ -1,13 +1,16 @@
-// position_third_step2.rs: the solver's record and, a file for each shape, every expression of the three shapes that find no
-// roots. A time with a long numerator has a function of its own, and the times take its value, as they take h1 or jf: but for
-// rounding they add up to tf whatever those are.
+// position_third_step2.rs: the solver's record and, a file for each shape, every expression and every attempt of the
+// three shapes that find no roots. A time with a long numerator has a function of its own, and the times take its
+// value, as they take h1 or jf: but for rounding they add up to tf whatever those are.
 
 pub mod time_acc0;
 pub mod time_acc0_acc1;
 pub mod time_acc0_acc1_vel;
 
+use labels::ControlSigns;
+use labels::ReachedLimits;
 ghost use mathlib.Core.Path.{_≡_};
 ghost use Rattle.step2_solver.specs.New.{newOf, solverOf, limitsOf};
+ghost use Rattle.step2_solver.specs.Trials.{trialOf, noTrial};
 
 // The twelve numbers of a move, in the order of `new`.
 pub struct Move {
@@ -85,6 +88,49 @@ pub struct Times {
     pub t4: f64,
     pub t5: f64,
     pub t6: f64,
+}
+
+// An attempt as data: what is put into the profile, and what `check` is told of it.
+pub struct Trial {
+    pub made: bool,
+    pub times: Times,
+    pub signs: ControlSigns,
+    pub label: ReachedLimits,
+    pub jf: f64,
+}
+
+pub fn trial_of(times: Times, signs: ControlSigns, label: ReachedLimits, jf: f64) -> Trial
+    ensures { λ r. ⌜ r ≡ trialOf times signs label jf ⌝ }
+{
+    Trial {
+        made: true,
+        times,
+        signs,
+        label,
+        jf,
+    }
+}
+
+// The attempt is not made: nothing of it is put into a profile.
+pub fn no_trial() -> Trial
+    ensures { λ r. ⌜ r ≡ noTrial ⌝ }
+{
+    let times = Times {
+        t0: 0.0,
+        t1: 0.0,
+        t2: 0.0,
+        t3: 0.0,
+        t4: 0.0,
+        t5: 0.0,
+        t6: 0.0,
+    };
+    Trial {
+        made: false,
+        times,
+        signs: ControlSigns::UDDU,
+        label: ReachedLimits::None,
+        jf: 0.0,
+    }
 }
 
 impl PositionThirdOrderStep2 {

@@ -1,13 +1,21 @@
 // Expressions of `time_acc0`, by the Rust's names, in its order.
 
+use crate::Limits;
 use crate::PositionThirdOrderStep2;
 use crate::Times;
+use crate::Trial;
+use crate::trial_of;
+use labels::ControlSigns;
+use labels::ReachedLimits;
 ghost use mathlib.Core.Path.{_≡_};
-ghost use Rattle.step2_solver.specs.TimeAcc0.{acc0FirstH1, acc0FirstTimes, acc0SecondH0a, acc0SecondH0b, acc0SecondH0, acc0SecondH1, acc0SecondT1, acc0SecondTimes, acc0ThirdH0a, acc0ThirdH0b, acc0ThirdH1, acc0ThirdH2, acc0ThirdTimes};
+ghost use Rattle.step2_solver.specs.TimeAcc0.{acc0FirstH1, acc0FirstTimes, acc0SecondH0a, acc0SecondH0b};
+ghost use Rattle.step2_solver.specs.TimeAcc0.{acc0SecondH0, acc0SecondH1, acc0SecondT1, acc0SecondTimes};
+ghost use Rattle.step2_solver.specs.TimeAcc0.{acc0ThirdH0a, acc0ThirdH0b, acc0ThirdH1, acc0ThirdH2};
+ghost use Rattle.step2_solver.specs.TimeAcc0.{acc0ThirdTimes, acc0First, acc0Second, acc0Third};
 
 // First attempt: UDUD
 
-pub fn first_h1(s: PositionThirdOrderStep2, a_max: f64, j_max: f64) -> f64
+fn first_h1(s: PositionThirdOrderStep2, a_max: f64, j_max: f64) -> f64
     ensures { λ r. ⌜ r ≡ acc0FirstH1 s «a_max» «j_max» ⌝ }
 {
     sqrt::sqrt(
@@ -16,7 +24,7 @@ pub fn first_h1(s: PositionThirdOrderStep2, a_max: f64, j_max: f64) -> f64
     )
 }
 
-pub fn first_times(s: PositionThirdOrderStep2, a_max: f64, j_max: f64, h1: f64) -> Times
+fn first_times(s: PositionThirdOrderStep2, a_max: f64, j_max: f64, h1: f64) -> Times
     ensures { λ r. ⌜ r ≡ acc0FirstTimes s «a_max» «j_max» h1 ⌝ }
 {
     let t0 = (a_max - s.a0) / j_max;
@@ -37,15 +45,23 @@ pub fn first_times(s: PositionThirdOrderStep2, a_max: f64, j_max: f64, h1: f64) 
     }
 }
 
+pub fn first(s: PositionThirdOrderStep2, l: Limits) -> Trial
+    ensures { λ r. ⌜ r ≡ acc0First s l ⌝ }
+{
+    let h1 = first_h1(s, l.a_max, l.j_max);
+    let times = first_times(s, l.a_max, l.j_max, h1);
+    trial_of(times, ControlSigns::UDUD, ReachedLimits::None, l.j_max)
+}
+
 // Second attempt: UDDU by its signs, where the Rust's comment says UDUD
 
-pub fn second_h0a(s: PositionThirdOrderStep2, a_max: f64, j_max: f64) -> f64
+fn second_h0a(s: PositionThirdOrderStep2, a_max: f64, j_max: f64) -> f64
     ensures { λ r. ⌜ r ≡ acc0SecondH0a s «a_max» «j_max» ⌝ }
 {
     -s.a0_a0 + s.af_af - 2.0 * s.ad * a_max + 2.0 * j_max * (a_max * s.tf - s.vd)
 }
 
-pub fn second_h0b(s: PositionThirdOrderStep2, a_max: f64, j_max: f64) -> f64
+fn second_h0b(s: PositionThirdOrderStep2, a_max: f64, j_max: f64) -> f64
     ensures { λ r. ⌜ r ≡ acc0SecondH0b s «a_max» «j_max» ⌝ }
 {
     s.a0_p3 + 2.0 * s.af_p3
@@ -59,19 +75,19 @@ pub fn second_h0b(s: PositionThirdOrderStep2, a_max: f64, j_max: f64) -> f64
         + 3.0 * s.af * (a_max * a_max + 2.0 * a_max * j_max * s.tf - 2.0 * j_max * s.vd)
 }
 
-pub fn second_h0(j_max: f64, h0a: f64, h0b: f64) -> f64
+fn second_h0(j_max: f64, h0a: f64, h0b: f64) -> f64
     ensures { λ r. ⌜ r ≡ acc0SecondH0 «j_max» h0a h0b ⌝ }
 {
     float::abs(j_max) * sqrt::sqrt(4.0 * h0b * h0b - 18.0 * h0a * h0a * h0a)
 }
 
-pub fn second_h1(j_max: f64, h0a: f64) -> f64
+fn second_h1(j_max: f64, h0a: f64) -> f64
     ensures { λ r. ⌜ r ≡ acc0SecondH1 «j_max» h0a ⌝ }
 {
     3.0 * j_max * h0a
 }
 
-pub fn second_t1(s: PositionThirdOrderStep2, a_max: f64, j_max: f64, h1: f64) -> f64
+fn second_t1(s: PositionThirdOrderStep2, a_max: f64, j_max: f64, h1: f64) -> f64
     ensures { λ r. ⌜ r ≡ acc0SecondT1 s «a_max» «j_max» h1 ⌝ }
 {
     (-s.a0_p3
@@ -84,7 +100,7 @@ pub fn second_t1(s: PositionThirdOrderStep2, a_max: f64, j_max: f64, h1: f64) ->
         / h1
 }
 
-pub fn second_times(
+fn second_times(
     s: PositionThirdOrderStep2,
     a_max: f64,
     j_max: f64,
@@ -111,9 +127,21 @@ pub fn second_times(
     }
 }
 
+pub fn second(s: PositionThirdOrderStep2, l: Limits) -> Trial
+    ensures { λ r. ⌜ r ≡ acc0Second s l ⌝ }
+{
+    let h0a = second_h0a(s, l.a_max, l.j_max);
+    let h0b = second_h0b(s, l.a_max, l.j_max);
+    let h0 = second_h0(l.j_max, h0a, h0b);
+    let h1 = second_h1(l.j_max, h0a);
+    let t1 = second_t1(s, l.a_max, l.j_max, h1);
+    let times = second_times(s, l.a_max, l.j_max, h0, h1, t1);
+    trial_of(times, ControlSigns::UDDU, ReachedLimits::None, l.j_max)
+}
+
 // Third attempt: UDDU, Solution 1, a[3] other than 0
 
-pub fn third_h0a(s: PositionThirdOrderStep2, a_max: f64, j_max: f64) -> f64
+fn third_h0a(s: PositionThirdOrderStep2, a_max: f64, j_max: f64) -> f64
     ensures { λ r. ⌜ r ≡ acc0ThirdH0a s «a_max» «j_max» ⌝ }
 {
     s.a0_p3 + 2.0 * s.af_p3
@@ -127,7 +155,7 @@ pub fn third_h0a(s: PositionThirdOrderStep2, a_max: f64, j_max: f64) -> f64
         - 3.0 * a_max * s.j_max_j_max * s.tf_tf
 }
 
-pub fn third_h0b(s: PositionThirdOrderStep2, a_max: f64, j_max: f64) -> f64
+fn third_h0b(s: PositionThirdOrderStep2, a_max: f64, j_max: f64) -> f64
     ensures { λ r. ⌜ r ≡ acc0ThirdH0b s «a_max» «j_max» ⌝ }
 {
     s.a0_a0
@@ -135,19 +163,19 @@ pub fn third_h0b(s: PositionThirdOrderStep2, a_max: f64, j_max: f64) -> f64
         + 2.0 * (a_max * a_max - (s.a0 + s.af) * a_max + j_max * (s.vd - a_max * s.tf))
 }
 
-pub fn third_h1(j_max: f64, h0a: f64, h0b: f64) -> f64
+fn third_h1(j_max: f64, h0a: f64, h0b: f64) -> f64
     ensures { λ r. ⌜ r ≡ acc0ThirdH1 «j_max» h0a h0b ⌝ }
 {
     float::abs(j_max) / j_max * sqrt::sqrt(4.0 * h0a * h0a - 18.0 * h0b * h0b * h0b)
 }
 
-pub fn third_h2(j_max: f64, h0b: f64) -> f64
+fn third_h2(j_max: f64, h0b: f64) -> f64
     ensures { λ r. ⌜ r ≡ acc0ThirdH2 «j_max» h0b ⌝ }
 {
     6.0 * j_max * h0b
 }
 
-pub fn third_times(
+fn third_times(
     s: PositionThirdOrderStep2,
     a_max: f64,
     j_max: f64,
@@ -173,4 +201,15 @@ pub fn third_times(
         t5,
         t6,
     }
+}
+
+pub fn third(s: PositionThirdOrderStep2, l: Limits) -> Trial
+    ensures { λ r. ⌜ r ≡ acc0Third s l ⌝ }
+{
+    let h0a = third_h0a(s, l.a_max, l.j_max);
+    let h0b = third_h0b(s, l.a_max, l.j_max);
+    let h1 = third_h1(l.j_max, h0a, h0b);
+    let h2 = third_h2(l.j_max, h0b);
+    let times = third_times(s, l.a_max, l.j_max, h0a, h1, h2);
+    trial_of(times, ControlSigns::UDDU, ReachedLimits::Acc0, l.j_max)
 }

@@ -1,9 +1,17 @@
 // Expressions of `time_acc0_acc1`, by the Rust's names, in its order.
 
+use crate::Limits;
 use crate::PositionThirdOrderStep2;
 use crate::Times;
+use crate::Trial;
+use crate::trial_of;
+use labels::ControlSigns;
+use labels::ReachedLimits;
 ghost use mathlib.Core.Path.{_≡_};
-ghost use Rattle.step2_solver.specs.TimeAcc0Acc1.{acc0Acc1RestApplies, acc0Acc1RestH1, acc0Acc1RestH2, acc0Acc1RestJf, acc0Acc1RestT1, acc0Acc1RestTimes, acc0Acc1UdduRadicand, acc0Acc1UdduH1, acc0Acc1UdduJf, acc0Acc1UdduT1, acc0Acc1UdduTimes};
+ghost use Rattle.step2_solver.specs.TimeAcc0Acc1.{acc0Acc1RestApplies, acc0Acc1RestH1, acc0Acc1RestH2};
+ghost use Rattle.step2_solver.specs.TimeAcc0Acc1.{acc0Acc1RestJf, acc0Acc1RestT1, acc0Acc1RestTimes};
+ghost use Rattle.step2_solver.specs.TimeAcc0Acc1.{acc0Acc1UdduRadicand, acc0Acc1UdduH1, acc0Acc1UdduJf};
+ghost use Rattle.step2_solver.specs.TimeAcc0Acc1.{acc0Acc1UdduT1, acc0Acc1UdduTimes, acc0Acc1Rest, acc0Acc1Uddu};
 
 // `f64::EPSILON`, 2^-52.
 const EPSILON: f64 = 2.220446049250313e-16;
@@ -16,31 +24,31 @@ pub fn rest_applies(s: PositionThirdOrderStep2) -> bool
     (float::abs(s.a0) < EPSILON) & (float::abs(s.af) < EPSILON)
 }
 
-pub fn rest_h1(s: PositionThirdOrderStep2, a_max: f64, a_min: f64) -> f64
+fn rest_h1(s: PositionThirdOrderStep2, a_max: f64, a_min: f64) -> f64
     ensures { λ r. ⌜ r ≡ acc0Acc1RestH1 s «a_max» «a_min» ⌝ }
 {
     2.0 * a_min * s.g1 + s.vd_vd + a_max * (2.0 * s.pd + a_min * s.tf_tf - 2.0 * s.tf * s.vf)
 }
 
-pub fn rest_h2(s: PositionThirdOrderStep2, a_max: f64, a_min: f64) -> f64
+fn rest_h2(s: PositionThirdOrderStep2, a_max: f64, a_min: f64) -> f64
     ensures { λ r. ⌜ r ≡ acc0Acc1RestH2 s «a_max» «a_min» ⌝ }
 {
     (a_max - a_min) * (-a_min * s.vd + a_max * (a_min * s.tf - s.vd))
 }
 
-pub fn rest_jf(h1: f64, h2: f64) -> f64
+fn rest_jf(h1: f64, h2: f64) -> f64
     ensures { λ r. ⌜ r ≡ acc0Acc1RestJf h1 h2 ⌝ }
 {
     h2 / h1
 }
 
-pub fn rest_t1(s: PositionThirdOrderStep2, a_max: f64, a_min: f64, h1: f64, h2: f64) -> f64
+fn rest_t1(s: PositionThirdOrderStep2, a_max: f64, a_min: f64, h1: f64, h2: f64) -> f64
     ensures { λ r. ⌜ r ≡ acc0Acc1RestT1 s «a_max» «a_min» h1 h2 ⌝ }
 {
     (-2.0 * a_max * h1 + a_min * a_min * s.g2) / h2
 }
 
-pub fn rest_times(s: PositionThirdOrderStep2, a_max: f64, a_min: f64, jf: f64, t1: f64) -> Times
+fn rest_times(s: PositionThirdOrderStep2, a_max: f64, a_min: f64, jf: f64, t1: f64) -> Times
     ensures { λ r. ⌜ r ≡ acc0Acc1RestTimes s «a_max» «a_min» jf t1 ⌝ }
 {
     let t0 = a_max / jf;
@@ -60,10 +68,21 @@ pub fn rest_times(s: PositionThirdOrderStep2, a_max: f64, a_min: f64, jf: f64, t
     }
 }
 
+pub fn rest(s: PositionThirdOrderStep2, l: Limits) -> Trial
+    ensures { λ r. ⌜ r ≡ acc0Acc1Rest s l ⌝ }
+{
+    let h1 = rest_h1(s, l.a_max, l.a_min);
+    let h2 = rest_h2(s, l.a_max, l.a_min);
+    let jf = rest_jf(h1, h2);
+    let t1 = rest_t1(s, l.a_max, l.a_min, h1, h2);
+    let times = rest_times(s, l.a_max, l.a_min, jf, t1);
+    trial_of(times, ControlSigns::UDDU, ReachedLimits::Acc0Acc1, jf)
+}
+
 // UDDU
 
 // v is what the Rust hands to `pow2`.
-pub fn uddu_radicand(s: PositionThirdOrderStep2, a_max: f64, a_min: f64) -> f64
+fn uddu_radicand(s: PositionThirdOrderStep2, a_max: f64, a_min: f64) -> f64
     ensures { λ r. ⌜ r ≡ acc0Acc1UdduRadicand s «a_max» «a_min» ⌝ }
 {
     let v = (a_max - a_min) * (-a_min * s.vd + a_max * (a_min * s.tf - s.vd))
@@ -88,13 +107,13 @@ pub fn uddu_radicand(s: PositionThirdOrderStep2, a_max: f64, a_min: f64) -> f64
                 + a_max * (2.0 * s.pd + a_min * s.tf * s.tf - 2.0 * s.tf * s.vf))
 }
 
-pub fn uddu_h1(s: PositionThirdOrderStep2, a_max: f64, a_min: f64) -> f64
+fn uddu_h1(s: PositionThirdOrderStep2, a_max: f64, a_min: f64) -> f64
     ensures { λ r. ⌜ r ≡ acc0Acc1UdduH1 s «a_max» «a_min» ⌝ }
 {
     sqrt::sqrt(uddu_radicand(s, a_max, a_min))
 }
 
-pub fn uddu_jf(s: PositionThirdOrderStep2, a_max: f64, a_min: f64, h1: f64) -> f64
+fn uddu_jf(s: PositionThirdOrderStep2, a_max: f64, a_min: f64, h1: f64) -> f64
     ensures { λ r. ⌜ r ≡ acc0Acc1UdduJf s «a_max» «a_min» h1 ⌝ }
 {
     -(3.0 * s.af_af * a_max * s.tf
@@ -111,7 +130,7 @@ pub fn uddu_jf(s: PositionThirdOrderStep2, a_max: f64, a_min: f64, h1: f64) -> f
                 + a_max * (2.0 * s.pd + a_min * s.tf_tf - 2.0 * s.tf * s.vf)))
 }
 
-pub fn uddu_t1(s: PositionThirdOrderStep2, a_max: f64, a_min: f64, jf: f64) -> f64
+fn uddu_t1(s: PositionThirdOrderStep2, a_max: f64, a_min: f64, jf: f64) -> f64
     ensures { λ r. ⌜ r ≡ acc0Acc1UdduT1 s «a_max» «a_min» jf ⌝ }
 {
     (s.a0_a0 - s.af_af + 2.0 * s.ad * a_min
@@ -120,7 +139,7 @@ pub fn uddu_t1(s: PositionThirdOrderStep2, a_max: f64, a_min: f64, jf: f64) -> f
         / (2.0 * (a_max - a_min) * jf)
 }
 
-pub fn uddu_times(s: PositionThirdOrderStep2, a_max: f64, a_min: f64, jf: f64, t1: f64) -> Times
+fn uddu_times(s: PositionThirdOrderStep2, a_max: f64, a_min: f64, jf: f64, t1: f64) -> Times
     ensures { λ r. ⌜ r ≡ acc0Acc1UdduTimes s «a_max» «a_min» jf t1 ⌝ }
 {
     let t0 = (a_max - s.a0) / jf;
@@ -138,4 +157,14 @@ pub fn uddu_times(s: PositionThirdOrderStep2, a_max: f64, a_min: f64, jf: f64, t
         t5,
         t6,
     }
+}
+
+pub fn uddu(s: PositionThirdOrderStep2, l: Limits) -> Trial
+    ensures { λ r. ⌜ r ≡ acc0Acc1Uddu s l ⌝ }
+{
+    let h1 = uddu_h1(s, l.a_max, l.a_min);
+    let jf = uddu_jf(s, l.a_max, l.a_min, h1);
+    let t1 = uddu_t1(s, l.a_max, l.a_min, jf);
+    let times = uddu_times(s, l.a_max, l.a_min, jf, t1);
+    trial_of(times, ControlSigns::UDDU, ReachedLimits::Acc0Acc1, jf)
 }

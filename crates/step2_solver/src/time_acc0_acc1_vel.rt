@@ -1,20 +1,30 @@
 // Expressions of `time_acc0_acc1_vel`, by the Rust's names, in its order.
 
+use crate::Limits;
 use crate::PositionThirdOrderStep2;
 use crate::Times;
+use crate::Trial;
+use crate::no_trial;
+use crate::trial_of;
+use labels::ControlSigns;
+use labels::ReachedLimits;
 ghost use mathlib.Core.Path.{_≡_};
-ghost use Rattle.step2_solver.specs.TimeAcc0Acc1Vel.{acc0Acc1VelUdduApplies, acc0Acc1VelUdduRadicand, acc0Acc1VelUdduH1, acc0Acc1VelUdduT1, acc0Acc1VelUdduTimes, acc0Acc1VelUdudApplies, acc0Acc1VelUdudT1, acc0Acc1VelUdudT3, acc0Acc1VelUdudTimes};
+ghost use Rattle.step2_solver.specs.TimeAcc0Acc1Vel.{acc0Acc1VelUdduApplies, acc0Acc1VelUdduRadicand};
+ghost use Rattle.step2_solver.specs.TimeAcc0Acc1Vel.{acc0Acc1VelUdduH1, acc0Acc1VelUdduT1, acc0Acc1VelUdduTimes};
+ghost use Rattle.step2_solver.specs.TimeAcc0Acc1Vel.{acc0Acc1VelUdudApplies, acc0Acc1VelUdudT1};
+ghost use Rattle.step2_solver.specs.TimeAcc0Acc1Vel.{acc0Acc1VelUdudT3, acc0Acc1VelUdudTimes, acc0Acc1VelUddu};
+ghost use Rattle.step2_solver.specs.TimeAcc0Acc1Vel.{acc0Acc1VelUdud};
 
 // Profile UDDU, Solution 1
 
 // Whether this attempt is made.
-pub fn uddu_applies(s: PositionThirdOrderStep2, a_max: f64, a_min: f64, j_max: f64) -> bool
+fn uddu_applies(s: PositionThirdOrderStep2, a_max: f64, a_min: f64, j_max: f64) -> bool
     ensures { λ r. ⌜ r ≡ acc0Acc1VelUdduApplies s «a_max» «a_min» «j_max» ⌝ }
 {
     (2.0 * (a_max - a_min) + s.ad) / j_max < s.tf
 }
 
-pub fn uddu_radicand(s: PositionThirdOrderStep2, a_max: f64, a_min: f64, j_max: f64) -> f64
+fn uddu_radicand(s: PositionThirdOrderStep2, a_max: f64, a_min: f64, j_max: f64) -> f64
     ensures { λ r. ⌜ r ≡ acc0Acc1VelUdduRadicand s «a_max» «a_min» «j_max» ⌝ }
 {
     (s.a0_p4 + s.af_p4
@@ -39,13 +49,13 @@ pub fn uddu_radicand(s: PositionThirdOrderStep2, a_max: f64, a_min: f64, j_max: 
         + 4.0 * j_max * (a_min - a_max + j_max * s.tf - 2.0 * s.af) * s.tf
 }
 
-pub fn uddu_h1(s: PositionThirdOrderStep2, a_max: f64, a_min: f64, j_max: f64) -> f64
+fn uddu_h1(s: PositionThirdOrderStep2, a_max: f64, a_min: f64, j_max: f64) -> f64
     ensures { λ r. ⌜ r ≡ acc0Acc1VelUdduH1 s «a_max» «a_min» «j_max» ⌝ }
 {
     sqrt::sqrt(uddu_radicand(s, a_max, a_min, j_max)) * float::abs(j_max) / j_max
 }
 
-pub fn uddu_t1(s: PositionThirdOrderStep2, a_max: f64, a_min: f64, j_max: f64, h1: f64) -> f64
+fn uddu_t1(s: PositionThirdOrderStep2, a_max: f64, a_min: f64, j_max: f64, h1: f64) -> f64
     ensures { λ r. ⌜ r ≡ acc0Acc1VelUdduT1 s «a_max» «a_min» «j_max» h1 ⌝ }
 {
     (-(s.af_af - s.a0_a0
@@ -56,7 +66,7 @@ pub fn uddu_t1(s: PositionThirdOrderStep2, a_max: f64, a_min: f64, j_max: f64, h
         / (2.0 * (a_max - a_min) * j_max)
 }
 
-pub fn uddu_times(
+fn uddu_times(
     s: PositionThirdOrderStep2,
     a_max: f64,
     a_min: f64,
@@ -83,16 +93,34 @@ pub fn uddu_times(
     }
 }
 
+pub fn uddu(s: PositionThirdOrderStep2, l: Limits) -> Trial
+    ensures { λ r. ⌜ r ≡ acc0Acc1VelUddu s l ⌝ }
+{
+    if uddu_applies(s, l.a_max, l.a_min, l.j_max) {
+        let h1 = uddu_h1(s, l.a_max, l.a_min, l.j_max);
+        let t1 = uddu_t1(s, l.a_max, l.a_min, l.j_max, h1);
+        let times = uddu_times(s, l.a_max, l.a_min, l.j_max, h1, t1);
+        trial_of(
+            times,
+            ControlSigns::UDDU,
+            ReachedLimits::Acc0Acc1Vel,
+            l.j_max,
+        )
+    } else {
+        no_trial()
+    }
+}
+
 // Profile UDUD
 
 // Whether this attempt is made.
-pub fn udud_applies(s: PositionThirdOrderStep2, a_max: f64, j_max: f64) -> bool
+fn udud_applies(s: PositionThirdOrderStep2, a_max: f64, j_max: f64) -> bool
     ensures { λ r. ⌜ r ≡ acc0Acc1VelUdudApplies s «a_max» «j_max» ⌝ }
 {
     (-s.a0 + 4.0 * a_max - s.af) / j_max < s.tf
 }
 
-pub fn udud_t1(s: PositionThirdOrderStep2, a_max: f64, j_max: f64) -> f64
+fn udud_t1(s: PositionThirdOrderStep2, a_max: f64, j_max: f64) -> f64
     ensures { λ r. ⌜ r ≡ acc0Acc1VelUdudT1 s «a_max» «j_max» ⌝ }
 {
     (3.0 * (s.a0_p4 + s.af_p4) - 4.0 * (s.a0_p3 + s.af_p3) * a_max - 4.0 * s.af_p3 * a_max
@@ -109,7 +137,7 @@ pub fn udud_t1(s: PositionThirdOrderStep2, a_max: f64, j_max: f64) -> f64
                 + 2.0 * (a_max * a_max - a_max * j_max * s.tf + j_max * s.vd)))
 }
 
-pub fn udud_t3(s: PositionThirdOrderStep2, a_max: f64, j_max: f64) -> f64
+fn udud_t3(s: PositionThirdOrderStep2, a_max: f64, j_max: f64) -> f64
     ensures { λ r. ⌜ r ≡ acc0Acc1VelUdudT3 s «a_max» «j_max» ⌝ }
 {
     (-s.a0_a0 - s.af_af + 2.0 * a_max * (s.a0 + s.af - 2.0 * a_max) - 2.0 * j_max * s.vd)
@@ -117,7 +145,7 @@ pub fn udud_t3(s: PositionThirdOrderStep2, a_max: f64, j_max: f64) -> f64
         + s.tf
 }
 
-pub fn udud_times(s: PositionThirdOrderStep2, a_max: f64, j_max: f64, t1: f64, t3: f64) -> Times
+fn udud_times(s: PositionThirdOrderStep2, a_max: f64, j_max: f64, t1: f64, t3: f64) -> Times
     ensures { λ r. ⌜ r ≡ acc0Acc1VelUdudTimes s «a_max» «j_max» t1 t3 ⌝ }
 {
     let t0 = (-s.a0 + a_max) / j_max;
@@ -133,5 +161,23 @@ pub fn udud_times(s: PositionThirdOrderStep2, a_max: f64, j_max: f64, t1: f64, t
         t4,
         t5,
         t6,
+    }
+}
+
+pub fn udud(s: PositionThirdOrderStep2, l: Limits) -> Trial
+    ensures { λ r. ⌜ r ≡ acc0Acc1VelUdud s l ⌝ }
+{
+    if udud_applies(s, l.a_max, l.j_max) {
+        let t1 = udud_t1(s, l.a_max, l.j_max);
+        let t3 = udud_t3(s, l.a_max, l.j_max);
+        let times = udud_times(s, l.a_max, l.j_max, t1, t3);
+        trial_of(
+            times,
+            ControlSigns::UDUD,
+            ReachedLimits::Acc0Acc1Vel,
+            l.j_max,
+        )
+    } else {
+        no_trial()
     }
 }

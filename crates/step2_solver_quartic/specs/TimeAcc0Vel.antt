@@ -1,11 +1,19 @@
--- What `time_acc0_vel` computes, by the Rust's names, each operation rounded once in the Rust's order and brackets. Definitions only.
+-- What `time_acc0_vel` computes, by the Rust's names, each operation rounded once in
+-- the Rust's order and brackets, and its two attempts. Definitions only.
 use mathlib.Core.Bool.{Bool, cond}
 use mathlib.Core.List.{List, [], _∷_}
 use lib.Ieee.{Float, neg, lt}
 use Rattle.float.specs.Ops.{_⊕_, _⊖_, _⊗_, _⊘_, #0, #2, #3, #4, #6, #12, #24, #ε}
 use Rattle.float.specs.Helpers.{minOf, maxOf}
+use Rattle.step2_solver_quartic.specs.declared.Window.{Window}
+use Rattle.step2_solver_quartic.specs.Window.{outsideOf}
 use Rattle.step2_solver.specs.declared.PositionThirdOrderStep2.{PositionThirdOrderStep2}
 use Rattle.step2_solver.specs.declared.Times.{Times}
+use Rattle.step2_solver.specs.declared.Limits.{Limits}
+use Rattle.step2_solver.specs.declared.Trial.{Trial}
+use Rattle.step2_solver.specs.Trials.{trialOf, noTrial}
+use Rattle.labels.specs.declared.ReachedLimits.the-variants.{Acc0Vel}
+use Rattle.labels.specs.declared.ControlSigns.the-variants.{UDDU, UDUD}
 
 -- Whether no attempt is made.
 unfoldable pub acc0VelTooShort : PositionThirdOrderStep2 → («a_max» «j_max» : Float) → Bool
@@ -91,6 +99,21 @@ acc0VelUdduTimes s «a_max» «j_max» t h1 =
     let t6 = s .af ⊘ «j_max» ⊕ t in
     record { t0 = t0; t1 = t1; t2 = t2; t3 = t3; t4 = t4; t5 = t5; t6 = t6 }
 
+unfoldable pub acc0VelUdduWindow : PositionThirdOrderStep2 → Limits → Window
+acc0VelUdduWindow s l =
+    record {
+      «t_min» = acc0VelUdduTMin s (l .«j_max»);
+      «t_max» = acc0VelUdduTMax s (l .«a_max») (l .«a_min») (l .«j_max»);
+    }
+
+-- one root
+unfoldable pub acc0VelUddu : PositionThirdOrderStep2 → Limits → Window → Float → Trial
+acc0VelUddu s l w root =
+    let t = acc0VelUdduNewton s (l .«a_max») (l .«j_max») root in
+    let h1 = acc0VelUdduH1 s (l .«a_max») (l .«j_max») t in
+    let times = acc0VelUdduTimes s (l .«a_max») (l .«j_max») t h1 in
+    cond (outsideOf w root) noTrial (trialOf times UDDU Acc0Vel (l .«j_max»))
+
 -- Profile UDUD
 
 unfoldable pub acc0VelUdudPolynom : PositionThirdOrderStep2 → («a_max» «j_max» ph1 : Float) → List Float
@@ -156,3 +179,18 @@ acc0VelUdudTimes s «a_max» «j_max» t h1 =
     let t5 = #0 in
     let t6 = neg (s .af ⊘ «j_max») ⊕ t in
     record { t0 = t0; t1 = t1; t2 = t2; t3 = t3; t4 = t4; t5 = t5; t6 = t6 }
+
+unfoldable pub acc0VelUdudWindow : PositionThirdOrderStep2 → Limits → Window
+acc0VelUdudWindow s l =
+    record {
+      «t_min» = acc0VelUdudTMin s (l .«j_max»);
+      «t_max» = acc0VelUdudTMax s (l .«a_max») (l .«j_max»);
+    }
+
+-- one root
+unfoldable pub acc0VelUdud : PositionThirdOrderStep2 → Limits → Window → Float → Trial
+acc0VelUdud s l w root =
+    let t = acc0VelUdudNewton s (l .«a_max») (l .«j_max») root in
+    let h1 = acc0VelUdudH1 s (l .«a_max») (l .«j_max») t in
+    let times = acc0VelUdudTimes s (l .«a_max») (l .«j_max») t h1 in
+    cond (outsideOf w root) noTrial (trialOf times UDUD Acc0Vel (l .«j_max»))

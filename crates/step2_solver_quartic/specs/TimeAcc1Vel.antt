@@ -1,11 +1,19 @@
--- What `time_acc1_vel` computes, by the Rust's names, each operation rounded once in the Rust's order and brackets. Definitions only.
+-- What `time_acc1_vel` computes, by the Rust's names, each operation rounded once in
+-- the Rust's order and brackets, and its two attempts. Definitions only.
 use mathlib.Core.Bool.{cond}
 use mathlib.Core.List.{List, [], _∷_}
 use lib.Ieee.{Float, neg, lt}
 use Rattle.float.specs.Ops.{_⊕_, _⊖_, _⊗_, _⊘_, #0, #2, #3, #4, #5, #6, #8, #12, #24, #16ε}
 use Rattle.float.specs.Helpers.{absOf, minOf}
+use Rattle.step2_solver_quartic.specs.declared.Window.{Window}
+use Rattle.step2_solver_quartic.specs.Window.{outsideOf}
 use Rattle.step2_solver.specs.declared.PositionThirdOrderStep2.{PositionThirdOrderStep2}
 use Rattle.step2_solver.specs.declared.Times.{Times}
+use Rattle.step2_solver.specs.declared.Limits.{Limits}
+use Rattle.step2_solver.specs.declared.Trial.{Trial}
+use Rattle.step2_solver.specs.Trials.{trialOf, noTrial}
+use Rattle.labels.specs.declared.ReachedLimits.the-variants.{Acc1Vel}
+use Rattle.labels.specs.declared.ControlSigns.the-variants.{UDDU, UDUD}
 
 -- The least root that either attempt takes.
 unfoldable pub acc1VelTMin : PositionThirdOrderStep2 → («j_max» : Float) → Float
@@ -92,6 +100,21 @@ acc1VelUdduTimes s «a_min» «j_max» t h1 =
     let t6 = t4 ⊕ s .af ⊘ «j_max» in
     record { t0 = t0; t1 = t1; t2 = t2; t3 = t3; t4 = t4; t5 = t5; t6 = t6 }
 
+unfoldable pub acc1VelUdduWindow : PositionThirdOrderStep2 → Limits → Window
+acc1VelUdduWindow s l =
+    record {
+      «t_min» = acc1VelTMin s (l .«j_max»);
+      «t_max» = acc1VelUdduTMax s (l .«a_max») (l .«a_min») (l .«j_max»);
+    }
+
+-- one root
+unfoldable pub acc1VelUddu : PositionThirdOrderStep2 → Limits → Window → Float → Trial
+acc1VelUddu s l w root =
+    let t = acc1VelUdduNewton s (l .«a_min») (l .«j_max») root in
+    let h1 = acc1VelUdduH1 s (l .«a_min») (l .«j_max») t in
+    let times = acc1VelUdduTimes s (l .«a_min») (l .«j_max») t h1 in
+    cond (outsideOf w root) noTrial (trialOf times UDDU Acc1Vel (l .«j_max»))
+
 -- Profile UDUD
 
 unfoldable pub acc1VelUdudPolynom : PositionThirdOrderStep2 → («a_max» «j_max» : Float) → List Float
@@ -134,3 +157,17 @@ acc1VelUdudTimes s «a_max» «j_max» t h1 =
     let t5 = neg (h1 ⊕ «a_max») ⊘ «j_max» in
     let t6 = t4 ⊖ s .af ⊘ «j_max» in
     record { t0 = t0; t1 = t1; t2 = t2; t3 = t3; t4 = t4; t5 = t5; t6 = t6 }
+
+unfoldable pub acc1VelUdudWindow : PositionThirdOrderStep2 → Limits → Window
+acc1VelUdudWindow s l =
+    record {
+      «t_min» = acc1VelTMin s (l .«j_max»);
+      «t_max» = acc1VelUdudTMax s (l .«a_max») (l .«j_max»);
+    }
+
+-- one root
+unfoldable pub acc1VelUdud : PositionThirdOrderStep2 → Limits → Window → Float → Trial
+acc1VelUdud s l w root =
+    let h1 = acc1VelUdudH1 s (l .«a_max») (l .«j_max») root in
+    let times = acc1VelUdudTimes s (l .«a_max») (l .«j_max») root h1 in
+    cond (outsideOf w root) noTrial (trialOf times UDUD Acc1Vel (l .«j_max»))

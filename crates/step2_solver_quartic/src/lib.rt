@@ -1,5 +1,5 @@
-// position_third_step2.rs: a file for each of the two shapes that try the roots of a quartic, every expression of it.
-// The quartic itself is not among them.
+// position_third_step2.rs: a file for each of the two shapes that try the roots of a quartic, every expression of it
+// and its two attempts at one root. The quartic itself is solved elsewhere.
 
 pub mod time_acc0_vel;
 pub mod time_acc1_vel;
@@ -8,7 +8,22 @@ use step2_solver::Limits;
 use step2_solver::PositionThirdOrderStep2;
 use step2_solver::Shape;
 ghost use mathlib.Core.Path.{_≡_};
-ghost use Rattle.step2_solver_quartic.specs.Quartics.{noQuarticsOf, acc1VelQuarticsOf, acc0VelQuarticsOf, quarticsOf};
+ghost use Rattle.step2_solver_quartic.specs.Window.{outsideOf};
+ghost use Rattle.step2_solver_quartic.specs.Quartics.{noQuarticsOf, acc1VelQuarticsOf};
+ghost use Rattle.step2_solver_quartic.specs.Quartics.{acc0VelQuarticsOf, quarticsOf};
+
+// The roots that an attempt takes.
+pub struct Window {
+    pub t_min: f64,
+    pub t_max: f64,
+}
+
+// A NaN is not outside.
+fn outside(w: Window, root: f64) -> bool
+    ensures { λ r. ⌜ r ≡ outsideOf w root ⌝ }
+{
+    (root < w.t_min) | (root > w.t_max)
+}
 
 // UDDU's quartic and UDUD's, four coefficients each.
 pub struct Quartics {

@@ -1,9 +1,24 @@
 // Expressions of `time_acc0_vel`, by the Rust's names, in its order. t is a root of the quartic.
 
+use crate::Window;
+use crate::outside;
+use labels::ControlSigns;
+use labels::ReachedLimits;
+use step2_solver::Limits;
 use step2_solver::PositionThirdOrderStep2;
 use step2_solver::Times;
+use step2_solver::Trial;
+use step2_solver::no_trial;
+use step2_solver::trial_of;
 ghost use mathlib.Core.Path.{_≡_};
-ghost use Rattle.step2_solver_quartic.specs.TimeAcc0Vel.{acc0VelTooShort, acc0VelPh1, acc0VelUdduPolynom, acc0VelUdduTMin, acc0VelUdduTMax, acc0VelUdduOrig, acc0VelUdduDeriv, acc0VelUdduNewton, acc0VelUdduH1, acc0VelUdduTimes, acc0VelUdudPolynom, acc0VelUdudTMin, acc0VelUdudTMax, acc0VelUdudOrig, acc0VelUdudDeriv, acc0VelUdudNewton, acc0VelUdudH1, acc0VelUdudTimes};
+ghost use Rattle.step2_solver_quartic.specs.TimeAcc0Vel.{acc0VelTooShort, acc0VelPh1, acc0VelUdduPolynom};
+ghost use Rattle.step2_solver_quartic.specs.TimeAcc0Vel.{acc0VelUdduTMin, acc0VelUdduTMax, acc0VelUdduOrig};
+ghost use Rattle.step2_solver_quartic.specs.TimeAcc0Vel.{acc0VelUdduDeriv, acc0VelUdduNewton, acc0VelUdduH1};
+ghost use Rattle.step2_solver_quartic.specs.TimeAcc0Vel.{acc0VelUdduTimes, acc0VelUdudPolynom, acc0VelUdudTMin};
+ghost use Rattle.step2_solver_quartic.specs.TimeAcc0Vel.{acc0VelUdudTMax, acc0VelUdudOrig, acc0VelUdudDeriv};
+ghost use Rattle.step2_solver_quartic.specs.TimeAcc0Vel.{acc0VelUdudNewton, acc0VelUdudH1, acc0VelUdudTimes};
+ghost use Rattle.step2_solver_quartic.specs.TimeAcc0Vel.{acc0VelUdduWindow, acc0VelUddu, acc0VelUdudWindow};
+ghost use Rattle.step2_solver_quartic.specs.TimeAcc0Vel.{acc0VelUdud};
 
 // `f64::EPSILON`, 2^-52.
 const EPSILON: f64 = 2.220446049250313e-16;
@@ -44,19 +59,19 @@ pub fn uddu_polynom(s: PositionThirdOrderStep2, a_max: f64, j_max: f64, ph1: f64
     [polynom0, polynom1, polynom2, polynom3]
 }
 
-pub fn uddu_t_min(s: PositionThirdOrderStep2, j_max: f64) -> f64
+fn uddu_t_min(s: PositionThirdOrderStep2, j_max: f64) -> f64
     ensures { λ r. ⌜ r ≡ acc0VelUdduTMin s «j_max» ⌝ }
 {
     -s.af / j_max
 }
 
-pub fn uddu_t_max(s: PositionThirdOrderStep2, a_max: f64, a_min: f64, j_max: f64) -> f64
+fn uddu_t_max(s: PositionThirdOrderStep2, a_max: f64, a_min: f64, j_max: f64) -> f64
     ensures { λ r. ⌜ r ≡ acc0VelUdduTMax s «a_max» «a_min» «j_max» ⌝ }
 {
     float::min(s.tf - (2.0 * a_max - s.a0) / j_max, -a_min / j_max)
 }
 
-pub fn uddu_orig(s: PositionThirdOrderStep2, a_max: f64, j_max: f64, t: f64, h1: f64) -> f64
+fn uddu_orig(s: PositionThirdOrderStep2, a_max: f64, j_max: f64, t: f64, h1: f64) -> f64
     ensures { λ r. ⌜ r ≡ acc0VelUdduOrig s «a_max» «j_max» t h1 ⌝ }
 {
     (-3.0 * (s.a0_p4 + s.af_p4) + 4.0 * (s.af_p3 + 2.0 * s.a0_p3) * a_max
@@ -72,7 +87,7 @@ pub fn uddu_orig(s: PositionThirdOrderStep2, a_max: f64, j_max: f64, t: f64, h1:
         / (24.0 * a_max * s.j_max_j_max)
 }
 
-pub fn uddu_deriv(s: PositionThirdOrderStep2, a_max: f64, j_max: f64, t: f64, h1: f64) -> f64
+fn uddu_deriv(s: PositionThirdOrderStep2, a_max: f64, j_max: f64, t: f64, h1: f64) -> f64
     ensures { λ r. ⌜ r ≡ acc0VelUdduDeriv s «a_max» «j_max» t h1 ⌝ }
 {
     -t
@@ -85,7 +100,7 @@ pub fn uddu_deriv(s: PositionThirdOrderStep2, a_max: f64, j_max: f64, t: f64, h1
 }
 
 // Single Newton step (regarding pd).
-pub fn uddu_newton(s: PositionThirdOrderStep2, a_max: f64, j_max: f64, t: f64) -> f64
+fn uddu_newton(s: PositionThirdOrderStep2, a_max: f64, j_max: f64, t: f64) -> f64
     ensures { λ r. ⌜ r ≡ acc0VelUdduNewton s «a_max» «j_max» t ⌝ }
 {
     if t > EPSILON {
@@ -96,13 +111,13 @@ pub fn uddu_newton(s: PositionThirdOrderStep2, a_max: f64, j_max: f64, t: f64) -
     }
 }
 
-pub fn uddu_h1(s: PositionThirdOrderStep2, a_max: f64, j_max: f64, t: f64) -> f64
+fn uddu_h1(s: PositionThirdOrderStep2, a_max: f64, j_max: f64, t: f64) -> f64
     ensures { λ r. ⌜ r ≡ acc0VelUdduH1 s «a_max» «j_max» t ⌝ }
 {
     ((s.a0_a0 - s.af_af) / 2.0 + j_max * (j_max * t * t + s.vd)) / a_max
 }
 
-pub fn uddu_times(s: PositionThirdOrderStep2, a_max: f64, j_max: f64, t: f64, h1: f64) -> Times
+fn uddu_times(s: PositionThirdOrderStep2, a_max: f64, j_max: f64, t: f64, h1: f64) -> Times
     ensures { λ r. ⌜ r ≡ acc0VelUdduTimes s «a_max» «j_max» t h1 ⌝ }
 {
     let t0 = (-s.a0 + a_max) / j_max;
@@ -121,6 +136,28 @@ pub fn uddu_times(s: PositionThirdOrderStep2, a_max: f64, j_max: f64, t: f64, h1
         t5,
         t6,
     }
+}
+
+pub fn uddu_window(s: PositionThirdOrderStep2, l: Limits) -> Window
+    ensures { λ r. ⌜ r ≡ acc0VelUdduWindow s l ⌝ }
+{
+    Window {
+        t_min: uddu_t_min(s, l.j_max),
+        t_max: uddu_t_max(s, l.a_max, l.a_min, l.j_max),
+    }
+}
+
+// One root.
+pub fn uddu(s: PositionThirdOrderStep2, l: Limits, w: Window, root: f64) -> Trial
+    ensures { λ r. ⌜ r ≡ acc0VelUddu s l w root ⌝ }
+{
+    if outside(w, root) {
+        return no_trial();
+    }
+    let t = uddu_newton(s, l.a_max, l.j_max, root);
+    let h1 = uddu_h1(s, l.a_max, l.j_max, t);
+    let times = uddu_times(s, l.a_max, l.j_max, t, h1);
+    trial_of(times, ControlSigns::UDDU, ReachedLimits::Acc0Vel, l.j_max)
 }
 
 // Profile UDUD
@@ -143,19 +180,19 @@ pub fn udud_polynom(s: PositionThirdOrderStep2, a_max: f64, j_max: f64, ph1: f64
     [polynom0, polynom1, polynom2, polynom3]
 }
 
-pub fn udud_t_min(s: PositionThirdOrderStep2, j_max: f64) -> f64
+fn udud_t_min(s: PositionThirdOrderStep2, j_max: f64) -> f64
     ensures { λ r. ⌜ r ≡ acc0VelUdudTMin s «j_max» ⌝ }
 {
     s.af / j_max
 }
 
-pub fn udud_t_max(s: PositionThirdOrderStep2, a_max: f64, j_max: f64) -> f64
+fn udud_t_max(s: PositionThirdOrderStep2, a_max: f64, j_max: f64) -> f64
     ensures { λ r. ⌜ r ≡ acc0VelUdudTMax s «a_max» «j_max» ⌝ }
 {
     float::min(s.tf - a_max / j_max, a_max / j_max)
 }
 
-pub fn udud_orig(s: PositionThirdOrderStep2, a_max: f64, j_max: f64, t: f64, h1: f64) -> f64
+fn udud_orig(s: PositionThirdOrderStep2, a_max: f64, j_max: f64, t: f64, h1: f64) -> f64
     ensures { λ r. ⌜ r ≡ acc0VelUdudOrig s «a_max» «j_max» t h1 ⌝ }
 {
     -(3.0 * (s.a0_p4 + s.af_p4) - 4.0 * (2.0 * s.a0_p3 + s.af_p3) * a_max
@@ -170,7 +207,7 @@ pub fn udud_orig(s: PositionThirdOrderStep2, a_max: f64, j_max: f64, t: f64, h1:
         / (24.0 * a_max * s.j_max_j_max)
 }
 
-pub fn udud_deriv(s: PositionThirdOrderStep2, a_max: f64, j_max: f64, t: f64, h1: f64) -> f64
+fn udud_deriv(s: PositionThirdOrderStep2, a_max: f64, j_max: f64, t: f64, h1: f64) -> f64
     ensures { λ r. ⌜ r ≡ acc0VelUdudDeriv s «a_max» «j_max» t h1 ⌝ }
 {
     t
@@ -181,20 +218,20 @@ pub fn udud_deriv(s: PositionThirdOrderStep2, a_max: f64, j_max: f64, t: f64, h1
 }
 
 // Single Newton step (regarding pd).
-pub fn udud_newton(s: PositionThirdOrderStep2, a_max: f64, j_max: f64, t: f64) -> f64
+fn udud_newton(s: PositionThirdOrderStep2, a_max: f64, j_max: f64, t: f64) -> f64
     ensures { λ r. ⌜ r ≡ acc0VelUdudNewton s «a_max» «j_max» t ⌝ }
 {
     let h1 = j_max * t * t - s.vd;
     t - udud_orig(s, a_max, j_max, t, h1) / udud_deriv(s, a_max, j_max, t, h1)
 }
 
-pub fn udud_h1(s: PositionThirdOrderStep2, a_max: f64, j_max: f64, t: f64) -> f64
+fn udud_h1(s: PositionThirdOrderStep2, a_max: f64, j_max: f64, t: f64) -> f64
     ensures { λ r. ⌜ r ≡ acc0VelUdudH1 s «a_max» «j_max» t ⌝ }
 {
     ((s.a0_a0 + s.af_af) / 2.0 + j_max * (s.vd - j_max * t * t)) / a_max
 }
 
-pub fn udud_times(s: PositionThirdOrderStep2, a_max: f64, j_max: f64, t: f64, h1: f64) -> Times
+fn udud_times(s: PositionThirdOrderStep2, a_max: f64, j_max: f64, t: f64, h1: f64) -> Times
     ensures { λ r. ⌜ r ≡ acc0VelUdudTimes s «a_max» «j_max» t h1 ⌝ }
 {
     let t0 = (-s.a0 + a_max) / j_max;
@@ -213,4 +250,26 @@ pub fn udud_times(s: PositionThirdOrderStep2, a_max: f64, j_max: f64, t: f64, h1
         t5,
         t6,
     }
+}
+
+pub fn udud_window(s: PositionThirdOrderStep2, l: Limits) -> Window
+    ensures { λ r. ⌜ r ≡ acc0VelUdudWindow s l ⌝ }
+{
+    Window {
+        t_min: udud_t_min(s, l.j_max),
+        t_max: udud_t_max(s, l.a_max, l.j_max),
+    }
+}
+
+// One root.
+pub fn udud(s: PositionThirdOrderStep2, l: Limits, w: Window, root: f64) -> Trial
+    ensures { λ r. ⌜ r ≡ acc0VelUdud s l w root ⌝ }
+{
+    if outside(w, root) {
+        return no_trial();
+    }
+    let t = udud_newton(s, l.a_max, l.j_max, root);
+    let h1 = udud_h1(s, l.a_max, l.j_max, t);
+    let times = udud_times(s, l.a_max, l.j_max, t, h1);
+    trial_of(times, ControlSigns::UDUD, ReachedLimits::Acc0Vel, l.j_max)
 }

@@ -1,15 +1,28 @@
 // Expressions of `time_acc1_vel`, by the Rust's names, in its order. t is a root of the quartic.
 
+use crate::Window;
+use crate::outside;
+use labels::ControlSigns;
+use labels::ReachedLimits;
+use step2_solver::Limits;
 use step2_solver::PositionThirdOrderStep2;
 use step2_solver::Times;
+use step2_solver::Trial;
+use step2_solver::no_trial;
+use step2_solver::trial_of;
 ghost use mathlib.Core.Path.{_≡_};
-ghost use Rattle.step2_solver_quartic.specs.TimeAcc1Vel.{acc1VelTMin, acc1VelUdduPolynom, acc1VelUdduTMax, acc1VelUdduOrig, acc1VelUdduDeriv, acc1VelUdduNewton, acc1VelUdduH1, acc1VelUdduTimes, acc1VelUdudPolynom, acc1VelUdudTMax, acc1VelUdudH1, acc1VelUdudTimes};
+ghost use Rattle.step2_solver_quartic.specs.TimeAcc1Vel.{acc1VelTMin, acc1VelUdduPolynom, acc1VelUdduTMax};
+ghost use Rattle.step2_solver_quartic.specs.TimeAcc1Vel.{acc1VelUdduOrig, acc1VelUdduDeriv, acc1VelUdduNewton};
+ghost use Rattle.step2_solver_quartic.specs.TimeAcc1Vel.{acc1VelUdduH1, acc1VelUdduTimes, acc1VelUdudPolynom};
+ghost use Rattle.step2_solver_quartic.specs.TimeAcc1Vel.{acc1VelUdudTMax, acc1VelUdudH1, acc1VelUdudTimes};
+ghost use Rattle.step2_solver_quartic.specs.TimeAcc1Vel.{acc1VelUdduWindow, acc1VelUddu, acc1VelUdudWindow};
+ghost use Rattle.step2_solver_quartic.specs.TimeAcc1Vel.{acc1VelUdud};
 
 // `16.0 * f64::EPSILON`, 2^-48.
 const EPSILON_16: f64 = 3.552713678800501e-15;
 
 // The least root that either attempt takes.
-pub fn t_min(s: PositionThirdOrderStep2, j_max: f64) -> f64
+fn t_min(s: PositionThirdOrderStep2, j_max: f64) -> f64
     ensures { λ r. ⌜ r ≡ acc1VelTMin s «j_max» ⌝ }
 {
     -s.a0 / j_max
@@ -36,7 +49,7 @@ pub fn uddu_polynom(s: PositionThirdOrderStep2, a_min: f64, j_max: f64) -> [f64;
     [polynom0, polynom1, polynom2, polynom3]
 }
 
-pub fn uddu_t_max(s: PositionThirdOrderStep2, a_max: f64, a_min: f64, j_max: f64) -> f64
+fn uddu_t_max(s: PositionThirdOrderStep2, a_max: f64, a_min: f64, j_max: f64) -> f64
     ensures { λ r. ⌜ r ≡ acc1VelUdduTMax s «a_max» «a_min» «j_max» ⌝ }
 {
     float::min(
@@ -45,7 +58,7 @@ pub fn uddu_t_max(s: PositionThirdOrderStep2, a_max: f64, a_min: f64, j_max: f64
     )
 }
 
-pub fn uddu_orig(s: PositionThirdOrderStep2, a_min: f64, j_max: f64, t: f64, h0: f64) -> f64
+fn uddu_orig(s: PositionThirdOrderStep2, a_min: f64, j_max: f64, t: f64, h0: f64) -> f64
     ensures { λ r. ⌜ r ≡ acc1VelUdduOrig s «a_min» «j_max» t h0 ⌝ }
 {
     -s.pd
@@ -71,7 +84,7 @@ pub fn uddu_orig(s: PositionThirdOrderStep2, a_min: f64, j_max: f64, t: f64, h0:
         + s.tf * s.v0
 }
 
-pub fn uddu_deriv(s: PositionThirdOrderStep2, a_min: f64, j_max: f64, t: f64, h0: f64) -> f64
+fn uddu_deriv(s: PositionThirdOrderStep2, a_min: f64, j_max: f64, t: f64, h0: f64) -> f64
     ensures { λ r. ⌜ r ≡ acc1VelUdduDeriv s «a_min» «j_max» t h0 ⌝ }
 {
     (s.a0 + j_max * t)
@@ -83,7 +96,7 @@ pub fn uddu_deriv(s: PositionThirdOrderStep2, a_min: f64, j_max: f64, t: f64, h0
 }
 
 // Single Newton step (regarding pd).
-pub fn uddu_newton(s: PositionThirdOrderStep2, a_min: f64, j_max: f64, t: f64) -> f64
+fn uddu_newton(s: PositionThirdOrderStep2, a_min: f64, j_max: f64, t: f64) -> f64
     ensures { λ r. ⌜ r ≡ acc1VelUdduNewton s «a_min» «j_max» t ⌝ }
 {
     if float::abs(s.a0 + j_max * t) > EPSILON_16 {
@@ -94,13 +107,13 @@ pub fn uddu_newton(s: PositionThirdOrderStep2, a_min: f64, j_max: f64, t: f64) -
     }
 }
 
-pub fn uddu_h1(s: PositionThirdOrderStep2, a_min: f64, j_max: f64, t: f64) -> f64
+fn uddu_h1(s: PositionThirdOrderStep2, a_min: f64, j_max: f64, t: f64) -> f64
     ensures { λ r. ⌜ r ≡ acc1VelUdduH1 s «a_min» «j_max» t ⌝ }
 {
     -((s.a0_a0 + s.af_af) / 2.0 + j_max * (-s.vd + 2.0 * s.a0 * t + j_max * t * t)) / a_min
 }
 
-pub fn uddu_times(s: PositionThirdOrderStep2, a_min: f64, j_max: f64, t: f64, h1: f64) -> Times
+fn uddu_times(s: PositionThirdOrderStep2, a_min: f64, j_max: f64, t: f64, h1: f64) -> Times
     ensures { λ r. ⌜ r ≡ acc1VelUdduTimes s «a_min» «j_max» t h1 ⌝ }
 {
     let t0 = t;
@@ -119,6 +132,28 @@ pub fn uddu_times(s: PositionThirdOrderStep2, a_min: f64, j_max: f64, t: f64, h1
         t5,
         t6,
     }
+}
+
+pub fn uddu_window(s: PositionThirdOrderStep2, l: Limits) -> Window
+    ensures { λ r. ⌜ r ≡ acc1VelUdduWindow s l ⌝ }
+{
+    Window {
+        t_min: t_min(s, l.j_max),
+        t_max: uddu_t_max(s, l.a_max, l.a_min, l.j_max),
+    }
+}
+
+// One root.
+pub fn uddu(s: PositionThirdOrderStep2, l: Limits, w: Window, root: f64) -> Trial
+    ensures { λ r. ⌜ r ≡ acc1VelUddu s l w root ⌝ }
+{
+    if outside(w, root) {
+        return no_trial();
+    }
+    let t = uddu_newton(s, l.a_min, l.j_max, root);
+    let h1 = uddu_h1(s, l.a_min, l.j_max, t);
+    let times = uddu_times(s, l.a_min, l.j_max, t, h1);
+    trial_of(times, ControlSigns::UDDU, ReachedLimits::Acc1Vel, l.j_max)
 }
 
 // Profile UDUD
@@ -145,7 +180,7 @@ pub fn udud_polynom(s: PositionThirdOrderStep2, a_max: f64, j_max: f64) -> [f64;
     [polynom0, polynom1, polynom2, polynom3]
 }
 
-pub fn udud_t_max(s: PositionThirdOrderStep2, a_max: f64, j_max: f64) -> f64
+fn udud_t_max(s: PositionThirdOrderStep2, a_max: f64, j_max: f64) -> f64
     ensures { λ r. ⌜ r ≡ acc1VelUdudTMax s «a_max» «j_max» ⌝ }
 {
     float::min(
@@ -154,13 +189,13 @@ pub fn udud_t_max(s: PositionThirdOrderStep2, a_max: f64, j_max: f64) -> f64
     )
 }
 
-pub fn udud_h1(s: PositionThirdOrderStep2, a_max: f64, j_max: f64, t: f64) -> f64
+fn udud_h1(s: PositionThirdOrderStep2, a_max: f64, j_max: f64, t: f64) -> f64
     ensures { λ r. ⌜ r ≡ acc1VelUdudH1 s «a_max» «j_max» t ⌝ }
 {
     ((s.a0_a0 - s.af_af) / 2.0 + s.j_max_j_max * t * t - j_max * (s.vd - 2.0 * s.a0 * t)) / a_max
 }
 
-pub fn udud_times(s: PositionThirdOrderStep2, a_max: f64, j_max: f64, t: f64, h1: f64) -> Times
+fn udud_times(s: PositionThirdOrderStep2, a_max: f64, j_max: f64, t: f64, h1: f64) -> Times
     ensures { λ r. ⌜ r ≡ acc1VelUdudTimes s «a_max» «j_max» t h1 ⌝ }
 {
     let t0 = t;
@@ -179,4 +214,25 @@ pub fn udud_times(s: PositionThirdOrderStep2, a_max: f64, j_max: f64, t: f64, h1
         t5,
         t6,
     }
+}
+
+pub fn udud_window(s: PositionThirdOrderStep2, l: Limits) -> Window
+    ensures { λ r. ⌜ r ≡ acc1VelUdudWindow s l ⌝ }
+{
+    Window {
+        t_min: t_min(s, l.j_max),
+        t_max: udud_t_max(s, l.a_max, l.j_max),
+    }
+}
+
+// One root.
+pub fn udud(s: PositionThirdOrderStep2, l: Limits, w: Window, root: f64) -> Trial
+    ensures { λ r. ⌜ r ≡ acc1VelUdud s l w root ⌝ }
+{
+    if outside(w, root) {
+        return no_trial();
+    }
+    let h1 = udud_h1(s, l.a_max, l.j_max, root);
+    let times = udud_times(s, l.a_max, l.j_max, root, h1);
+    trial_of(times, ControlSigns::UDUD, ReachedLimits::Acc1Vel, l.j_max)
 }

@@ -1,6 +1,6 @@
 -- `bench_check_in_place` is `checkLentOf`. Assumes nothing.
 use borrow.Author.Needs.{needs}
-use Rattle.profile.specs.Check.{profileOf}
+use Rattle.profile.specs.Parts.{profileOf}
 use Rattle.bench_labels.proofs.Left.{left}
 use Rattle.bench_exports.proofs.bench_check_in_place.Statement.{statement}
 use Rattle.bench_exports.proofs.bench_check_in_place.Tie as tie

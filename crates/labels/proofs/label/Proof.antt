@@ -1,12 +1,13 @@
 -- `label` is `labelOf`, number by number. Assumes nothing.
 use mathlib.Core.Path.{_≡_, refl}
 use Prim.Native.Nat.{ℕ, zero, suc}
-use Rattle.profile.specs.declared.ReachedLimits.the-variants.{None}
+use Rattle.labels.specs.declared.ReachedLimits.the-variants.{None}
 use Rattle.labels.specs.Labels.{labelOf}
 use Rattle.labels.proofs.label.Statement.{statement}
 use Rattle.labels.proofs.label.Tie as tie
 
-other : (n : ℕ) → (n ≡ 0 → ⊥) → (n ≡ 1 → ⊥) → (n ≡ 2 → ⊥) → (n ≡ 3 → ⊥) → (n ≡ 4 → ⊥) → (n ≡ 5 → ⊥) → (n ≡ 6 → ⊥) → None ≡ labelOf n
+other : (n : ℕ)
+    → (n ≡ 0 → ⊥) → (n ≡ 1 → ⊥) → (n ≡ 2 → ⊥) → (n ≡ 3 → ⊥) → (n ≡ 4 → ⊥) → (n ≡ 5 → ⊥) → (n ≡ 6 → ⊥) → None ≡ labelOf n
 other zero a b c d e f g = absurd (a refl)
 other (suc zero) a b c d e f g = absurd (b refl)
 other (suc (suc zero)) a b c d e f g = absurd (c refl)
@@ -25,7 +26,8 @@ last c =
     let i3 = i4 .before in
     let i2 = i3 .before in
     let i1 = i2 .before in
-    other (i1 .before .args .n) (i1 .if1 .left) (i2 .if2 .left) (i3 .if3 .left) (i4 .if4 .left) (i5 .if5 .left) (i6 .if6 .left) (c .if7 .left)
+    other (i1 .before .args .n)
+    (i1 .if1 .left) (i2 .if2 .left) (i3 .if3 .left) (i4 .if4 .left) (i5 .if5 .left) (i6 .if6 .left) (c .if7 .left)
 
 pub label-spec : {M : Type 1} → statement M
 label-spec =

@@ -1,4 +1,4 @@
--- `time_acc0` by value is `timeAcc0Of`. Assumes nothing.
+-- `time_acc0` by value is `askedOf Acc0`. Assumes nothing.
 use Rattle.position_third_step2.proofs.time_acc0.Statement.{statement}
 use Rattle.position_third_step2.proofs.time_acc0.Tie as tie
 

@@ -1,4 +1,4 @@
--- `time_acc0_acc1` by value is `timeAcc0Acc1Of`. Assumes nothing.
+-- `time_acc0_acc1` by value is `askedOf Acc0Acc1`. Assumes nothing.
 use Rattle.position_third_step2.proofs.time_acc0_acc1.Statement.{statement}
 use Rattle.position_third_step2.proofs.time_acc0_acc1.Tie as tie
 

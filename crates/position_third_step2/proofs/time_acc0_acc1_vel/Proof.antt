@@ -1,4 +1,4 @@
--- `time_acc0_acc1_vel` by value is `timeAcc0Acc1VelOf`. Assumes nothing.
+-- `time_acc0_acc1_vel` by value is `askedOf Acc0Acc1Vel`. Assumes nothing.
 use Rattle.position_third_step2.proofs.time_acc0_acc1_vel.Statement.{statement}
 use Rattle.position_third_step2.proofs.time_acc0_acc1_vel.Tie as tie
 

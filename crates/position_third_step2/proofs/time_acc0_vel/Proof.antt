@@ -1,4 +1,4 @@
--- `time_acc0_vel` by value is `timeAcc0VelOf`. Assumes nothing.
+-- `time_acc0_vel` by value is `askedOf Acc0Vel`. Assumes nothing.
 use Rattle.position_third_step2.proofs.time_acc0_vel.Statement.{statement}
 use Rattle.position_third_step2.proofs.time_acc0_vel.Tie as tie
 

@@ -1,4 +1,4 @@
--- `time_acc1_vel` by value is `timeAcc1VelOf`. Assumes nothing.
+-- `time_acc1_vel` by value is `askedOf Acc1Vel`. Assumes nothing.
 use Rattle.position_third_step2.proofs.time_acc1_vel.Statement.{statement}
 use Rattle.position_third_step2.proofs.time_acc1_vel.Tie as tie
 

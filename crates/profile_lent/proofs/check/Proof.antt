@@ -41,8 +41,8 @@ use Rattle.profile.specs.declared.Checked.{Checked}
 use Rattle.profile.proofs.Profile as T
 use Rattle.profile.proofs.Checked as R
 use Rattle.profile.proofs.Checked.Laws as R′
-use Rattle.profile.proofs.ControlSigns as S
-use Rattle.profile.proofs.ReachedLimits as L
+use Rattle.labels.proofs.ControlSigns as S
+use Rattle.labels.proofs.ReachedLimits as L
 use Rattle.profile.proofs.Profile.check as by-value
 use Rattle.profile.proofs.Profile.check.Symbol as by-value-def
 use Rattle.profile.proofs.Profile.check.Symbol.{name as #profile·Profile·check}

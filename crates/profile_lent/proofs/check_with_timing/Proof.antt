@@ -36,8 +36,8 @@ use Rattle.profile.specs.Check.{checkOf}
 use Rattle.profile.specs.declared.Profile.{Profile}
 use Rattle.profile.specs.declared.Checked.{Checked}
 use Rattle.profile.proofs.Profile as T
-use Rattle.profile.proofs.ControlSigns as S
-use Rattle.profile.proofs.ReachedLimits as L
+use Rattle.labels.proofs.ControlSigns as S
+use Rattle.labels.proofs.ReachedLimits as L
 use Rattle.profile_lent.proofs.Plain.{Plains, Fit, signs, limits, truth, number, spells, tellss, vals, stays, goes, made, typed}
 use Rattle.profile_lent.proofs.check as check
 use Rattle.profile_lent.proofs.check.Symbol as check-def

@@ -14,7 +14,7 @@ end-reply-requires c κs =
     let q = s .args in
     let m =
     filled-few (take (q .count) (q .text .now)) (q .out .now) _ (q .at) _ _ (s .pre .1)
-    (a .answer-counted .ensures) in
+    (a .answered .ensures) in
     search needs
 
 returns : tie.Need-returns
@@ -25,7 +25,7 @@ returns c =
     let s = a .before .before .before .before .before in
     let q = s .args in
     rw (p .end-reply .ensures .0, p .end-reply .ensures .1)
-    (replied (take (q .count) (q .text .now)) (q .out .now) _ (q .at) _ _ (s .pre .1) (a .answer-counted .ensures)
+    (replied (take (q .count) (q .text .now)) (q .out .now) _ (q .at) _ _ (s .pre .1) (a .answered .ensures)
     (i .if1 .taken))
 
 returns-2 : tie.Need-returns-2
@@ -35,7 +35,7 @@ returns-2 c =
     let a = i .before .before .before .before in
     let s = a .before .before .before .before .before in
     let q = s .args in
-    refused (take (q .count) (q .text .now)) (q .out .now) _ (q .at) _ _ (s .pre .1) (a .answer-counted .ensures)
+    refused (take (q .count) (q .text .now)) (q .out .now) _ (q .at) _ _ (s .pre .1) (a .answered .ensures)
     (i .if1 .left)
     _
     _

@@ -6,7 +6,18 @@ use Rattle.profile.proofs.in_place.arrived.Tie as tie
 
 returns : tie.Need-returns
 unfolding arrivedOf
-returns c = rw (c .abs3 .ensures, c .before .before .before .abs2 .ensures, c .before .before .before .before .before .before .abs .ensures)
+returns c =
+    let v = c .before .before .before in
+    rw (c .near3 .ensures, v .near2 .ensures, v .before .before .before .near .ensures)
 
 pub arrived-spec : {M : Type 1} → statement M
-arrived-spec = tie.close (tie.spec (λ c. search needs) (λ c κs. search needs) (λ c. search needs) (λ c κs. search needs) (λ c. search needs) (λ c κs. search needs) returns)
+arrived-spec =
+    tie.close
+    (tie.spec
+    (λ c. search needs)
+    (λ c κs. search needs)
+    (λ c. search needs)
+    (λ c κs. search needs)
+    (λ c. search needs)
+    (λ c κs. search needs)
+    returns)

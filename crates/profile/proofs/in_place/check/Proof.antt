@@ -1,103 +1,58 @@
--- `check` in place is `checkOf`. The invariant: the rest of the phases from here is the whole from the start. Assumes nothing.
-use Prim.Native.Nat.{_≤_, _+_, _-_}
-use mathlib.Core.Path.{_≡_, refl, sym, _∙_, ap}
-use mathlib.Core.Bool.{true, false}
-use native.Mathlib.Omega.{arith}
+-- `check` in place is `checkOf`: one law for each way out (Ways.antt). Assumes nothing.
+use mathlib.Core.Path.{_≡_, sym, _∙_}
 use borrow.Author.Needs.{needs}
 use borrow.Author.Tests.{not-true, not-false}
-use Rattle.profile.specs.Run.{run}
-use Rattle.profile.specs.Phase.{Nodes, phaseOf}
-use Rattle.profile.proofs.Runs.{turn, halt, done}
 use Rattle.profile.proofs.Ways.{negative-time, refused-time, left-the-band, ended}
 use Rattle.profile.proofs.in_place.check.Statement.{statement}
 use Rattle.profile.proofs.in_place.check.Tie as tie
 
-abbrev Inv-loop : tie.InvT-loop
-Inv-loop t t-sum j a₀ v₀ p₀ goal control-signs limits set-limits jf v-max v-min a-max a-min was-limits was-signs made way v-band i₀ a v p i =
-    (i ≤ 7)
-    × (run (phaseOf made set-limits a-max a-min v-band t j) (7 - i) i (record { a = a; v = v; p = p })
-    ≡ run (phaseOf made set-limits a-max a-min v-band t j) 7 0 (record { a = a₀; v = v₀; p = p₀ }))
+returns : tie.Need-returns
+returns c =
+    negative-time _ _ _ _ _ _ _ _ _ _ _ _ _ _ _ _ (c .before .sums .ensures)
+    (not-true (c .before .sums .result) (c .if1 .taken))
 
-abbrev μ-loop : tie.MeasureT-loop
-μ-loop t t-sum j a₀ v₀ p₀ goal control-signs limits set-limits jf v-max v-min a-max a-min was-limits was-signs made way v-band i₀ a v p i = 7 - i
-
-returns : tie.Need-returns Inv-loop μ-loop
-returns c = negative-time _ _ _ _ _ _ _ _ _ _ _ _ _ _ _ (c .before .sums .result) (c .before .sums .ensures) (not-true (c .before .sums .result) (c .if1 .taken))
-
-returns-2 : tie.Need-returns-2 Inv-loop μ-loop
+returns-2 : tie.Need-returns-2
 returns-2 c =
     let u = c .before .before .before in
     let s = u .before .before in
-    refused-time _ _ _ _ _ _ _ _ _ _ _ _ _ _ _ (s .sums .result) (s .sums .ensures) (not-false (s .sums .result) (u .before .if1 .left)) (u .tests-under .result) (u .tests-under .ensures)
+    refused-time _ _ _ _ _ _ _ _ _ _ _ _ _ _ _ _ (s .sums .ensures)
+    (not-false (s .sums .result) (u .before .if1 .left)) _ (u .tests-under .ensures)
     (sym (c .before .refused .ensures) ∙ c .if2 .taken)
 
-returns-3 : tie.Need-returns-3 Inv-loop μ-loop
-unfolding phaseOf
+returns-3 : tie.Need-returns-3
 returns-3 c =
-    let l = c .before .before .before .before .before .before .before .before in
-    let more = c .before .before .before .before .before .before .before .loop-test .taken in
-    let js = l .before .before .before in
-    let u = js .before .before .before .before .before in
+    let n = c .before in
+    let w = n .before .before .before .before .before in
+    let x = w .before .before .before .before in
+    let u = x .before .before .before in
     let s = u .before .before in
-    let q = s .before .before .args in
-    let j = js .jerks .last .1 .1 .1 .0 in
-    let h = not-true (c .before .phase .result) (c .if3 .taken) in
-    left-the-band _ _ _ _ _ _ _ _ _ _ _ _ _ _ _ (s .sums .result) (s .sums .ensures) (not-false (s .sums .result) (u .before .if1 .left)) (u .tests-under .result) (u .tests-under .ensures)
-    (sym (js .before .before .before .refused .ensures) ∙ js .before .before .if2 .left)
-    j
-    (js .jerks .ensures)
-    (l .before .before .direction .result)
-    (l .before .before .direction .ensures)
-    (l .before .widened .result)
-    (l .before .widened .ensures)
-    _
-    (c .before .phase .result)
-    (halt (phaseOf (u .tests-under .result) (q .set-limits) (q .a-max) (q .a-min) (l .before .widened .result) (q .t .now) j) 7 (l .loop .i) (record { a = l .loop .a; v = l .loop .v; p = l .loop .p }) _ (c .before .phase .ensures) more h ∙ l .loop .inv .1)
-    h
+    left-the-band _ _ _ _ _ _ _ _ _ _ _ _ _ _ _ _ (s .sums .ensures)
+    (not-false (s .sums .result) (u .before .if1 .left)) _ (u .tests-under .ensures)
+    (sym (x .before .refused .ensures) ∙ x .if2 .left) _ (w .before .before .jerks .ensures)
+    _ (w .before .direction .ensures) _ (w .widened .ensures) _ _ (n .nodes .ensures)
+    (not-true (n .nodes .result) (c .if3 .taken))
 
-loop-again : tie.Need-loop-again Inv-loop μ-loop
-unfolding phaseOf
-loop-again c =
-    let l = c .before .before .before .before .before .before .before .before in
-    let more = c .before .before .before .before .before .before .before .loop-test .taken in
-    let js = l .before .before .before in
-    let u = js .before .before .before .before .before in
-    let s = u .before .before in
-    let q = s .before .before .args in
-    let j = js .jerks .last .1 .1 .1 .0 in
-    (omega (arith, more), turn (phaseOf (u .tests-under .result) (q .set-limits) (q .a-max) (q .a-min) (l .before .widened .result) (q .t .now) j) 7 (l .loop .i) (record { a = l .loop .a; v = l .loop .v; p = l .loop .p }) _ (c .before .phase .ensures) more (not-false (c .before .phase .result) (c .if3 .left)) ∙ l .loop .inv .1)
-
-returns-4 : tie.Need-returns-4 Inv-loop μ-loop
+returns-4 : tie.Need-returns-4
 returns-4 c =
-    let l = c .before .before .before .before .before .before .before .before .before .before in
-    let js = l .before .before .before in
-    let u = js .before .before .before .before .before in
+    let v = c .before .before .before .before in
+    let b = v .before .before .before .before in
+    let n = b .before .before in
+    let w = n .before .before .before .before .before in
+    let x = w .before .before .before .before in
+    let u = x .before .before .before in
     let s = u .before .before in
-    let q = s .before .before .args in
-    let j = js .jerks .last .1 .1 .1 .0 in
-    let w = c .before .before .before .before .before .before .before .before in
-    rw (c .kept .ensures, c .before .before .before .before .arrived .ensures)
-    (ended _ _ _ _ _ _ _ _ _ _ _ _ _ _ _ (s .sums .result) (s .sums .ensures) (not-false (s .sums .result) (u .before .if1 .left)) (u .tests-under .result) (u .tests-under .ensures)
-    (sym (js .before .before .before .refused .ensures) ∙ js .before .before .if2 .left)
-    j
-    (js .jerks .ensures)
-    (l .before .before .direction .result)
-    (l .before .before .direction .ensures)
-    (l .before .widened .result)
-    (l .before .widened .ensures)
-    (record { a = l .loop .a; v = l .loop .v; p = l .loop .p })
-    true
-    (done (phaseOf (u .tests-under .result) (q .set-limits) (q .a-max) (q .a-min) (l .before .widened .result) (q .t .now) j) 7 (l .loop .i) (record { a = l .loop .a; v = l .loop .v; p = l .loop .p }) (omega arith) ∙ l .loop .inv .1)
-    (w .widened2 .result)
-    (w .widened2 .ensures)
-    refl)
+    rw (c .kept .ensures, v .arrived .ensures)
+    (ended _ _ _ _ _ _ _ _ _ _ _ _ _ _ _ _ (s .sums .ensures)
+    (not-false (s .sums .result) (u .before .if1 .left)) _ (u .tests-under .ensures)
+    (sym (x .before .refused .ensures) ∙ x .if2 .left) _ (w .before .before .jerks .ensures)
+    _ (w .before .direction .ensures) _ (w .widened .ensures) _ _ (n .nodes .ensures)
+    _ (b .widened2 .ensures)
+    (not-false (n .nodes .result) (b .before .if3 .left)))
 
 pub check-spec : {M : Type 1} → statement M
 check-spec =
     tie.close
     (tie.spec
-    Inv-loop
-    μ-loop
     (λ c κs. search needs)
     returns
     (λ c κs. search needs)
@@ -106,16 +61,8 @@ check-spec =
     (λ c κs. search needs)
     (λ c κs. search needs)
     (λ c κs. search needs)
-    (λ c. (omega arith, refl))
-    (λ c. search needs)
-    (λ c. search needs)
-    (λ c. search needs)
-    (λ c. search needs)
     (λ c κs. search needs)
     returns-3
-    (λ c. search needs)
-    (λ c. search needs)
-    loop-again
     (λ c κs. search needs)
     (λ c κs. search needs)
     (λ c κs. search needs)

@@ -1,4 +1,5 @@
--- `time_acc0_acc1_vel::uddu_applies` is `acc0Acc1VelUdduApplies`: the same operations in the same order. Assumes nothing.
+-- `time_acc0_acc1_vel::uddu_applies` is `acc0Acc1VelUdduApplies`: the same operations in the same order.
+-- Assumes nothing.
 use mathlib.Core.Path.{refl}
 use Rattle.step2_solver.specs.TimeAcc0Acc1Vel.{acc0Acc1VelUdduApplies}
 use Rattle.step2_solver.proofs.time_acc0_acc1_vel.uddu_applies.Statement.{statement}

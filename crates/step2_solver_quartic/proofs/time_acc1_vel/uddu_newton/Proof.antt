@@ -15,7 +15,9 @@ uddu-deriv-requires c κs = search needs
 
 returns : tie.Need-returns
 unfolding acc1VelUdduNewton
-returns c = rw (c .uddu-deriv .ensures, c .before .uddu-orig .ensures, ← c .before .before .before .abs .ensures, c .before .before .if1 .taken)
+returns c =
+    let tested = c .before .before in
+    rw (c .uddu-deriv .ensures, c .before .uddu-orig .ensures, ← tested .before .abs .ensures, tested .if1 .taken)
 
 returns-2 : tie.Need-returns-2
 unfolding acc1VelUdduNewton

@@ -1,0 +1,2 @@
+-- The labels and the sign patterns, case by case.
+pub mod ByLabel

@@ -1,0 +1,20 @@
+-- The rows of the table are `patternOf`, pattern by pattern. Assumes nothing.
+use Prim.Native.Nat.{_%_}
+use mathlib.Core.List.{[], _∷_}
+use mathlib.Core.Path.{_≡_, refl}
+use lib.ListN.{getD}
+use borrow.Author.Needs.{needs}
+use Rattle.labels.specs.declared.ControlSigns.the-variants.{UDDU, UDUD}
+use Rattle.labels.specs.Labels.{signsNumber}
+use Rattle.labels.specs.Jerks.{patternOf}
+use Rattle.labels.proofs.ByLabel.{by-signs}
+use Rattle.labels.proofs.jerks.pattern.Statement.{statement}
+use Rattle.labels.proofs.jerks.pattern.Tie as tie
+
+returns : tie.Need-returns
+returns c =
+    rw (c .before .signs-number .ensures)
+    (by-signs (λ s. getD (patternOf UDDU ∷ patternOf UDUD ∷ []) (signsNumber s % 2) [] ≡ patternOf s) refl refl (c .before .before .args .control-signs))
+
+pub pattern-spec : {M : Type 1} → statement M
+pattern-spec = tie.close (tie.spec (λ c κs. search needs) (λ c. search needs) (λ c. search needs) (λ c. search needs) returns)

@@ -1,0 +1,79 @@
+// The sign of the jerk in each phase, and the seven jerks.
+use super::ControlSigns;
+use super::signs_number;
+use float::pick;
+ghost use mathlib.Core.Path.{_≡_};
+ghost use Rattle.labels.specs.Jerks.{patternOf, signedOf, jerkOf, jerksOf};
+
+pub enum Sign {
+    Plus,
+    Zero,
+    Minus,
+}
+
+const SIGNS: [[Sign; 7]; 2] = [
+    [
+        Sign::Plus,
+        Sign::Zero,
+        Sign::Minus,
+        Sign::Zero,
+        Sign::Minus,
+        Sign::Zero,
+        Sign::Plus,
+    ],
+    [
+        Sign::Plus,
+        Sign::Zero,
+        Sign::Minus,
+        Sign::Zero,
+        Sign::Plus,
+        Sign::Zero,
+        Sign::Minus,
+    ],
+];
+
+// The seven signs of a pattern.
+pub fn pattern(control_signs: ControlSigns) -> [Sign; 7]
+    ensures { λ r. ⌜ r ≡ patternOf «control_signs» ⌝ }
+{
+    SIGNS[(signs_number(control_signs) as usize) % 2]
+}
+
+pub fn signed(s: Sign, jf: f64) -> f64
+    ensures { λ r. ⌜ r ≡ signedOf s jf ⌝ }
+{
+    match s {
+        Sign::Plus => jf,
+        Sign::Zero => 0.0,
+        Sign::Minus => -jf,
+    }
+}
+
+// A phase whose time is not above 0, NaN included, has jerk 0.
+pub fn jerk(s: Sign, t: f64, jf: f64) -> f64
+    ensures { λ r. ⌜ r ≡ jerkOf s t jf ⌝ }
+{
+    pick(t > 0.0, signed(s, jf), 0.0)
+}
+
+pub fn jerks(control_signs: ControlSigns, t: &[f64; 7], jf: f64, j: &mut [f64; 7])
+    ensures { λ _. ⌜ now (j .exit) ≡ jerksOf «control_signs» (now (t .entry)) jf ⌝ }
+{
+    let row = pattern(control_signs);
+    let s0 = row[0];
+    let s1 = row[1];
+    let s2 = row[2];
+    let s3 = row[3];
+    let s4 = row[4];
+    let s5 = row[5];
+    let s6 = row[6];
+    *j = [
+        jerk(s0, t[0], jf),
+        jerk(s1, t[1], jf),
+        jerk(s2, t[2], jf),
+        jerk(s3, t[3], jf),
+        jerk(s4, t[4], jf),
+        jerk(s5, t[5], jf),
+        jerk(s6, t[6], jf),
+    ];
+}

@@ -1,0 +1,31 @@
+-- The ways out of a reply, over any questions: a number, and the places as they came; or the reply in the first of them. Assumes nothing.
+use mathlib.Core.Path.{_≡_, refl, ap, _∙_}
+use mathlib.Core.Bool.{Bool, true, false}
+use mathlib.Core.List.{List, _∷_, _++_}
+use Prim.Native.Nat.{ℕ, _≤_}
+use lib.ListN.{length}
+use borrow.Author.Tests.{ne-eqb, le-leb}
+use Rattle.hex.specs.Hex.{hexOf, fill}
+use Rattle.line_questions.specs.Questions.{Question, ask}
+use Rattle.line_questions.proofs.Asked.{AllYes, stops, none}
+use Rattle.line_reply.specs.Reply.{writtenOf}
+use Rattle.lines.specs.Answer.{repliedOf}
+
+module _ (bytes lent : List ℕ) where
+  -- the first were answered yes, and the next gets a no
+  pub refused : (first : List Question) (n : ℕ) (rest : List Question) {b : Bool} → AllYes first → b ≡ false → (n ≡ 0 → ⊥)
+      → record { number = n; places = lent } ≡ repliedOf (first ++ (ask n b ∷ rest)) bytes lent
+  unfolding repliedOf
+  refused first n rest h e z = rw (stops first n rest h e, ne-eqb n 0 z)
+
+  -- none got a no
+  pub replied : (qs : List Question) → AllYes qs → (reply : List ℕ) → reply ≡ fill (hexOf bytes) lent
+      → record { number = 0; places = reply } ≡ repliedOf qs bytes lent
+  unfolding repliedOf
+  replied qs h reply e = rw (none qs h, e)
+
+-- with enough places, writing fills them
+pub filled : (n : ℕ) (bytes lent left : List ℕ) (ok : Bool) → n ≤ length lent
+    → record { ok = ok; left = left } ≡ writtenOf n bytes lent → left ≡ fill (hexOf bytes) lent
+unfolding writtenOf
+filled n bytes lent left ok enough e = ap (λ x. x .left) e ∙ rw (le-leb n (length lent) enough)

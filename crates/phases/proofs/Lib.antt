@@ -1,0 +1,2 @@
+-- What every loop of counted steps shares.
+pub mod Runs

@@ -1,0 +1,4 @@
+pub mod Run
+pub mod Times
+pub mod Limit
+pub mod Phase

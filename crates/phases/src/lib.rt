@@ -1,0 +1,5 @@
+// What `check` of profile.rs is made of: the phase times and their sums, the limits, one phase, and all seven.
+pub mod limit;
+pub mod nodes;
+pub mod phase;
+pub mod times;

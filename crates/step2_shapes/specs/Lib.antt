@@ -1,3 +1,0 @@
-pub mod TimeAcc0Acc1Vel
-pub mod TimeAcc0Acc1
-pub mod TimeAcc0

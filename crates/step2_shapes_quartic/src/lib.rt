@@ -1,3 +1,0 @@
-// position_third_step2.rs: the two shapes that try the roots of quartics, in place, a file each.
-pub mod acc0_vel;
-pub mod acc1_vel;

@@ -1,0 +1,20 @@
+-- An attempt as data: seven times and what `check` is told of them, or no attempt. Definitions only.
+use mathlib.Core.Bool.{true, false}
+use lib.Ieee.{Float}
+use Rattle.float.specs.Ops.{#0}
+use Rattle.labels.specs.declared.ReachedLimits.{ReachedLimits}
+use Rattle.labels.specs.declared.ReachedLimits.the-variants.{None}
+use Rattle.labels.specs.declared.ControlSigns.{ControlSigns}
+use Rattle.labels.specs.declared.ControlSigns.the-variants.{UDDU}
+use Rattle.step2_solver.specs.declared.Times.{Times}
+use Rattle.step2_solver.specs.declared.Trial.{Trial}
+
+abbrev pub trialOf : Times → ControlSigns → ReachedLimits → Float → Trial
+trialOf times signs label jf = record { made = true; times = times; signs = signs; label = label; jf = jf }
+
+abbrev noTimes : Times
+noTimes = record { t0 = #0; t1 = #0; t2 = #0; t3 = #0; t4 = #0; t5 = #0; t6 = #0 }
+
+-- no attempt is made, and nothing of it is looked at
+abbrev pub noTrial : Trial
+noTrial = record { made = false; times = noTimes; signs = UDDU; label = None; jf = #0 }
