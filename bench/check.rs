@@ -52,8 +52,11 @@ extern "C" {
     ) -> u32;
 }
 
-/// Each turn goes through all cases once.
-const TURNS: usize = 2001;
+/// So few cases are learnt by the branch predictor, which is shown beside all of them.
+const FEW: usize = 1000;
+
+/// The calls of a way, some of them for each turn, which goes through all cases once.
+const CALLS: usize = 2_000_000;
 
 const NAMES: [&str; 3] =
     ["Rust, &mut Profile", "static library, in place", "static library, by value"];
@@ -86,6 +89,7 @@ struct Record {
 }
 
 /// The Rust keeps its own record, and the library's two ways another one.
+#[derive(Clone)]
 struct Case {
     asked: Asked,
     profile: Profile,
@@ -194,8 +198,9 @@ fn verdict(case: &Case) -> bool {
 }
 
 fn measure(title: &str, cases: &mut [Case]) {
+    let turns = CALLS / cases.len().max(1) | 1;
     // A second `check` of a record finds the same start and times, so it does the same again.
-    let times = timing::medians(NAMES.len(), TURNS, cases.len(), |way, _| {
+    let times = timing::medians(NAMES.len(), turns, cases.len(), |way, _| {
         for case in black_box(&mut *cases) {
             match way {
                 0 => drop(black_box(by_rust(&case.asked, &mut case.profile))),
@@ -205,24 +210,26 @@ fn measure(title: &str, cases: &mut [Case]) {
         }
     });
     timing::print(
-        &format!("{title}, {} cases {TURNS} times: time a call, and beside the first", cases.len()),
+        &format!("{title}, {} cases {turns} times: time a call, and beside the first", cases.len()),
         &NAMES,
         &times,
         0,
     );
 }
 
-fn main() {
-    let (mut yes, mut no) = (Vec::new(), Vec::new());
-    for line in stdin().lock().lines() {
-        let case = read(line.expect("standard input").as_bytes());
-        if verdict(&case) {
-            yes.push(case)
-        } else {
-            no.push(case)
-        }
-    }
-    println!("{} records equal the Rust's", yes.len() + no.len());
+fn both(cases: &[Case]) {
+    let (mut yes, mut no): (Vec<_>, Vec<_>) = cases.iter().cloned().partition(verdict);
     measure("accepted moves", &mut yes);
     measure("refused moves", &mut no);
+}
+
+fn main() {
+    let lines = stdin().lock().lines();
+    let cases: Vec<_> = lines.map(|line| read(line.expect("standard input").as_bytes())).collect();
+    cases.iter().for_each(|case| drop(verdict(case)));
+    println!("{} records equal the Rust's", cases.len());
+    if cases.len() > FEW {
+        both(&cases[..FEW]);
+    }
+    both(&cases);
 }

@@ -1,6 +1,7 @@
 #!/bin/sh
 # Times `check` beside the Rust's, on kind 00 lines of the oracle's generator. Needs
-# rt and rustc, and target/oracle, which oracle/build.sh makes.
+# rt and rustc, and target/oracle, which oracle/build.sh makes. A thousand cases are
+# timed first, then all of them.
 #
 #   bench/check.sh [SEED [COUNT]]
 set -eu
@@ -25,6 +26,6 @@ rustc --edition 2021 -O -C codegen-units=1 "$here/check.rs" -o "$out/check" \
     --extern rsruckig="$oracle/plain/librsruckig.rlib" \
     -L native="$root/target/staticlib" -l static=bench_exports \
     -l static=bench_by_value
-"$oracle/generate" "${1:-1}" "${2:-1000}" kind 00 > "$out/lines" 2> "$out/coverage"
+"$oracle/generate" "${1:-1}" "${2:-20000}" kind 00 > "$out/lines" 2> "$out/coverage"
 uptime
 "$out/check" < "$out/lines"

@@ -1,12 +1,11 @@
-// `check` by value for the benchmarks in bench/: the record is made of lent arrays, and what comes back is stored there.
-// It has a library of its own: beside another caller of `check` in place, that function is called and not inlined.
+// `check` by value for the benchmarks in bench/: the record is made of lent arrays, and what comes back is stored
+// there. It has a library of its own: beside another caller of `check` in place, that function is called and not
+// inlined.
 use bench_labels::answer_number;
-use labels::ControlSigns;
-use labels::Direction;
-use labels::Labels;
-use labels::ReachedLimits;
+use labels::start_labels;
 use profile::Profile;
 use profile::in_place::Answer;
+use profile::in_place::Goal;
 ghost use mathlib.Core.Path.{_≡_};
 ghost use Rattle.bench_labels.specs.Lent.{checkLentOf};
 
@@ -30,24 +29,26 @@ pub extern "C" fn bench_check_by_value(
     a_max: f64,
     a_min: f64,
 ) -> u32
-    ensures { λ r. ⌜ record { number = r; t-sum = now («t_sum» .exit); j = now (j .exit); nodes = record { a = now (a .exit); v = now (v .exit); p = now (p .exit) } }
-        ≡ checkLentOf (now (t .entry)) (now («t_sum» .entry)) (now (j .entry)) (record { a = now (a .entry); v = now (v .entry); p = now (p .entry) })
+    ensures { λ r. ⌜ record {
+      number = r;
+      t-sum = now («t_sum» .exit);
+      j = now (j .exit);
+      nodes = record { a = now (a .exit); v = now (v .exit); p = now (p .exit) };
+    }
+        ≡ checkLentOf (now (t .entry)) (now («t_sum» .entry)) (now (j .entry))
+        (record { a = now (a .entry); v = now (v .entry); p = now (p .entry) })
         (record { pf = pf; vf = vf; af = af }) signs label «set_limits» jf «v_max» «v_min» «a_max» «a_min» ⌝ }
 {
-    let profile = Profile {
-        t: *t,
-        t_sum: *t_sum,
-        j: *j,
-        a: *a,
-        v: *v,
-        p: *p,
-        pf,
-        vf,
-        af,
-        limits: ReachedLimits::None,
-        direction: Direction::UP,
-        control_signs: ControlSigns::UDDU,
-    };
+    let profile = Profile::from_parts(
+        *t,
+        *t_sum,
+        *j,
+        *a,
+        *v,
+        *p,
+        Goal { pf, vf, af },
+        start_labels(),
+    );
     let checked = profile.check(
         labels::signs(signs),
         labels::label(label),
@@ -69,15 +70,8 @@ pub extern "C" fn bench_check_by_value(
     *a = next_a;
     *v = next_v;
     *p = next_p;
-    let limits = next.limits;
-    let direction = next.direction;
-    let control_signs = next.control_signs;
     answer_number(Answer {
         ok: checked.ok,
-        labels: Labels {
-            limits,
-            direction,
-            control_signs,
-        },
+        labels: next.labels(),
     })
 }

@@ -34,8 +34,14 @@ pub extern "C" fn bench_check_in_place(
     a_max: f64,
     a_min: f64,
 ) -> u32
-    ensures { λ r. ⌜ record { number = r; t-sum = now («t_sum» .exit); j = now (j .exit); nodes = record { a = now (a .exit); v = now (v .exit); p = now (p .exit) } }
-        ≡ checkLentOf (now (t .entry)) (now («t_sum» .entry)) (now (j .entry)) (record { a = now (a .entry); v = now (v .entry); p = now (p .entry) })
+    ensures { λ r. ⌜ record {
+      number = r;
+      t-sum = now («t_sum» .exit);
+      j = now (j .exit);
+      nodes = record { a = now (a .exit); v = now (v .exit); p = now (p .exit) };
+    }
+        ≡ checkLentOf (now (t .entry)) (now («t_sum» .entry)) (now (j .entry))
+        (record { a = now (a .entry); v = now (v .entry); p = now (p .entry) })
         (record { pf = pf; vf = vf; af = af }) signs label «set_limits» jf «v_max» «v_min» «a_max» «a_min» ⌝ }
 {
     let answer = profile::in_place::check(

@@ -1,1 +1,2 @@
+-- What the exported checks leave.
 pub mod Left

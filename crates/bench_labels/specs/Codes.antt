@@ -6,4 +6,8 @@ use Rattle.profile.specs.declared.in_place.Answer.{Answer}
 
 -- verdict (1 yes), direction, signs and label, as the digits of a number of the bases 2, 2, 2 and 8
 abbrev pub answerNumber : Answer → ℕ
-answerNumber r = cond (r .ok) 1 0 + 2 * directionNumber (r .labels .direction) + 4 * signsNumber (r .labels .«control_signs») + 8 * labelNumber (r .labels .limits)
+answerNumber r =
+    cond (r .ok) 1 0
+    + 2 * directionNumber (r .labels .direction)
+    + 4 * signsNumber (r .labels .«control_signs»)
+    + 8 * labelNumber (r .labels .limits)

@@ -3,7 +3,7 @@ use mathlib.Core.Bool.{Bool}
 use mathlib.Core.List.{List}
 use Prim.Native.Nat.{ℕ}
 use lib.Ieee.{Float}
-use Rattle.profile.specs.Parts.{profileOf, labelsOf}
+use Rattle.profile.specs.Parts.{profileOf, nodesOf, labelsOf}
 use Rattle.profile.specs.Check.{checkOf}
 use Rattle.phases.specs.Phase.{Nodes}
 use Rattle.profile.specs.declared.Checked.{Checked}
@@ -24,10 +24,13 @@ leftOf c =
       number = answerNumber (record { ok = c .ok; labels = labelsOf (c .profile) });
       t-sum = c .profile .«t_sum»;
       j = c .profile .j;
-      nodes = record { a = c .profile .a; v = c .profile .v; p = c .profile .p };
+      nodes = nodesOf (c .profile);
     }
 
 -- `check` of a record with these times, sums, jerks and nodes, this goal, and the labels of `Profile::default()`
-unfoldable pub checkLentOf : List Float → List Float → List Float → Nodes → Goal → ℕ → ℕ → Bool → Float → Float → Float → Float → Float → Left
+unfoldable pub checkLentOf :
+    List Float → List Float → List Float → Nodes → Goal → ℕ → ℕ → Bool → Float → Float → Float → Float → Float → Left
 checkLentOf t t-sum j nodes goal signs label set-limits jf v-max v-min a-max a-min =
-    leftOf (checkOf (signsOf signs) (labelOf label) set-limits jf v-max v-min a-max a-min (profileOf t t-sum j nodes goal startLabels))
+    leftOf
+    (checkOf (signsOf signs) (labelOf label) set-limits jf v-max v-min a-max a-min
+    (profileOf t t-sum j nodes goal startLabels))

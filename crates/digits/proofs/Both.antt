@@ -1,6 +1,6 @@
 -- The sixteen characters of a number, as they are read and as they are written. Assumes nothing.
 use mathlib.Core.Path.{_≡_, refl, ap, sym, _∙_}
-use mathlib.Core.Bool.{Bool, true, false, cond, _&&_, and-true, true≢false}
+use mathlib.Core.Bool.{Bool, true, false, cond, _&&_, and-true, true≢false, and-assoc}
 use mathlib.Core.List.{List, [], _∷_}
 use Prim.Native.Nat.{ℕ, _+_, _-_, _*_, _^_, _<_, _≤_}
 use native.Mathlib.Nat.{pow-le-pow-right, pow-succ', lt-of-lt-of-le}
@@ -44,10 +44,6 @@ value-lt c =
 
     letter : c ≤ 70 → c - 55 < 16
     letter h = omega arith
-
-and-assoc : (a b c : Bool) → (a && b) && c ≡ a && (b && c)
-and-assoc true b c = refl
-and-assoc false b c = refl
 
 -- ---- a place of a line
 module _ (line : List ℕ) (at : ℕ) where

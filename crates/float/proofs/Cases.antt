@@ -1,4 +1,4 @@
--- What the code of `abs`, `min`, `max`, `is_finite` and `to_bits` tests, worked out at each kind of float: NaN, an infinity, a number. Assumes nothing.
+-- What the code tests, worked out at each kind of float: NaN, an infinity, a number. Assumes nothing.
 use Prim.Native.Nat.{ℕ, zero, suc, _+_, _*_, _%_, _<_, _≤_, _^_}
 use mathlib.Core.Path.{_≡_, refl, ap, sym, subst, _∙_}
 use mathlib.Core.Bool.{Bool, true, false, not, _&&_, cond, true≢false}
@@ -45,7 +45,8 @@ unequal m d e = ne-eqb (suc m * up e * 1) (0 * d) (other (suc m * up e) d (mul-p
     other : (a d : ℕ) → 0 < a → a * 1 ≡ 0 * d → ⊥
     other a d h k = omega arith
 
-pub abs-is : (x : Float) → T (fits binary64 x) → cond (lt x (ofBits binary64 0)) (neg x) (cond (eq x (ofBits binary64 0)) (ofBits binary64 0) x) ≡ absOf x
+pub abs-is : (x : Float) → T (fits binary64 x) → cond (lt x (ofBits binary64 0)) (neg x)
+    (cond (eq x (ofBits binary64 0)) (ofBits binary64 0) x) ≡ absOf x
 unfolding lt eq neg absOf ofBits
 abs-is nan h = refl
 abs-is (inf true) h = refl
@@ -157,4 +158,5 @@ some-bits b h = rw (nanBits-above binary64 b, le-ltb 0x7FF0_0000_0000_0000 (b % 
 pub nan-bits : (b : ℕ) → 0x7FF0_0000_0000_0000 < b % 0x8000_0000_0000_0000 → ofBits binary64 b ≡ nan
 nan-bits b h =
     is-nan (ofBits binary64 b)
-    (sym (nanBits-is binary64 b) ∙ nanBits-above binary64 b ∙ lt-ltb 0x7FF0_0000_0000_0000 (b % 0x8000_0000_0000_0000) h)
+    (sym (nanBits-is binary64 b) ∙ nanBits-above binary64 b ∙ lt-ltb 0x7FF0_0000_0000_0000 (b % 0x8000_0000_0000_0000)
+    h)

@@ -1,1 +1,2 @@
+-- The cases that the proofs of the functions share.
 pub mod Cases

@@ -1,5 +1,5 @@
--- What Rust's `f64::abs`, `min`, `max`, `is_finite`, `from_bits` and `to_bits` give, all NaNs being one.
--- `is_finite` is `finite` of lib.Ieee.Scale, and the two conversions are `ofBits` and `toBits` of lib.Ieee. Definitions only.
+-- What Rust's `f64::abs`, `min` and `max` give, all NaNs being one. Definitions only.
+-- `is_finite` is `finite` of lib.Ieee.Scale, and the two conversions are `ofBits` and `toBits` of lib.Ieee.
 use mathlib.Core.Bool.{Bool, true, false, cond}
 use lib.Ieee.{Float, nan, inf, fin, lt, isNan}
 

@@ -1,4 +1,4 @@
--- IEEE 754's operations on f64 and the literals of the Rust, by names of their own, so that a definition reads like the Rust's line.
+-- IEEE 754's operations on f64 and the Rust's literals, by names that let a definition read like the Rust's line.
 -- Definitions only. A literal is given by its bits; `#ε` is Rust's `f64::EPSILON`, 2 ^ -52.
 use lib.Ieee.{Float, binary64, add, sub, mul, div, ofBits}
 

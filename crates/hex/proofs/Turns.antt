@@ -1,6 +1,6 @@
 -- A turn of each loop, and its end: what is still to be stored from here is the whole from the start. Assumes nothing.
 use mathlib.Core.Path.{_≡_, refl, ap, sym, _∙_}
-use mathlib.Core.Bool.{Bool, true, false, _&&_, _||_}
+use mathlib.Core.Bool.{Bool, true, false, _&&_, _||_, and-assoc, and-true}
 use mathlib.Core.List.{List, [], _∷_, _++_, map}
 use Prim.Native.Nat.{ℕ, zero, suc, _+_, _-_, _*_, _/_, _%_, _≤_, _<_}
 use native.Mathlib.Nat.{zero-add, add-zero}
@@ -18,18 +18,10 @@ use Rattle.hex.proofs.Pair.{digit-lt}
 -- ---- decoding: whether all are digits
 module _ (line : List ℕ) (k : ℕ) where
   pub tested : (ok : Bool) → k < length line → (ok && isDigit (getD line k 0)) && allDigits (drop (k + 1) line) ≡ ok && allDigits (drop k line)
-  tested ok h = rw (add-one k, drop-cons line k 0 h) (assoc ok (isDigit (getD line k 0)) (allDigits (drop (suc k) line)))
-    where
-      assoc : (a b c : Bool) → (a && b) && c ≡ a && (b && c)
-      assoc true b c = refl
-      assoc false b c = refl
+  tested ok h = rw (add-one k, drop-cons line k 0 h) (and-assoc ok (isDigit (getD line k 0)) (allDigits (drop (suc k) line)))
 
   pub all-tested : (ok : Bool) → length line ≤ k → ok ≡ ok && allDigits (drop k line)
   all-tested ok h = rw (drop-of-length-le line h) (sym (and-true ok))
-    where
-      and-true : (b : Bool) → b && true ≡ b
-      and-true true = refl
-      and-true false = refl
 
 pub each-digit : (line : List ℕ) (k : ℕ) → allDigits line ≡ true → k < length line → isDigit (getD line k 0) ≡ true
 each-digit [] k h l = absurd (none k l)

@@ -1,5 +1,4 @@
--- What holds of each label holds of every label, and so of the sign patterns: for tables that are read by a number.
--- Assumes nothing.
+-- What holds of each label holds of all, and so of the signs: for tables read by a number. Assumes nothing.
 use Rattle.labels.specs.declared.ReachedLimits.{ReachedLimits}
 use Rattle.labels.specs.declared.ReachedLimits.the-variants.{Acc0Acc1Vel, Vel, Acc0, Acc1, Acc0Acc1}
 use Rattle.labels.specs.declared.ReachedLimits.the-variants.{Acc0Vel, Acc1Vel, None}

@@ -33,13 +33,13 @@ const SIGNS: [[Sign; 7]; 2] = [
 ];
 
 // The seven signs of a pattern.
-pub fn pattern(control_signs: ControlSigns) -> [Sign; 7]
+fn pattern(control_signs: ControlSigns) -> [Sign; 7]
     ensures { λ r. ⌜ r ≡ patternOf «control_signs» ⌝ }
 {
     SIGNS[(signs_number(control_signs) as usize) % 2]
 }
 
-pub fn signed(s: Sign, jf: f64) -> f64
+fn signed(s: Sign, jf: f64) -> f64
     ensures { λ r. ⌜ r ≡ signedOf s jf ⌝ }
 {
     match s {
@@ -50,7 +50,7 @@ pub fn signed(s: Sign, jf: f64) -> f64
 }
 
 // A phase whose time is not above 0, NaN included, has jerk 0.
-pub fn jerk(s: Sign, t: f64, jf: f64) -> f64
+fn jerk(s: Sign, t: f64, jf: f64) -> f64
     ensures { λ r. ⌜ r ≡ jerkOf s t jf ⌝ }
 {
     pick(t > 0.0, signed(s, jf), 0.0)

@@ -10,7 +10,7 @@ use lib.Ieee.{Float, binary64}
 use lib.Ieee.Bits.{ofBits-fits}
 use lib.Ieee.Scale.{finite}
 use borrow.Author.Tests.{ne-eqb, le-leb}
-use Rattle.profile_arrives.specs.Reply.{Number}
+use Rattle.rounding.specs.Value.{Number}
 use Rattle.roots.specs.declared.RootAnswer.the-variants.{CubeRoot, Resolved}
 use Rattle.roots.proofs.Laws.{AnswerFits}
 use Rattle.profile.specs.declared.Checked.{Checked}
@@ -43,7 +43,7 @@ finite-first x xs h = by (finite x) h
     by false e = absurd (true≢false (sym e))
 
 number-of : (at : Frame) (i n : ℕ) → allFinite (numbersAt at i (suc n)) ≡ true → Number (numberAt at i) × (allFinite (numbersAt at (i + 8) n) ≡ true)
-number-of at i n h = let w = finite-first (numberAt at i) (numbersAt at (i + 8) n) h in ((ofBits-fits binary64 (wordAt at i), w .0), w .1)
+number-of at i n h = let w = finite-first (numberAt at i) (numbersAt at (i + 8) n) h in (record { held = ofBits-fits binary64 (wordAt at i); finite = w .0 }, w .1)
 
 twelve : (line : List ℕ) → allFinite (numbersAt (byteAt (bytesOf line)) 1 12) ≡ true → Numbers (moveIn line)
 twelve line h =

@@ -1,6 +1,6 @@
 -- The search for a line feed, thirty-two characters at once, eight or one. Assumes nothing.
 use mathlib.Core.Path.{_≡_, refl, ap, sym, _∙_}
-use mathlib.Core.Bool.{Bool, true, false, cond, not, _&&_, true≢false}
+use mathlib.Core.Bool.{Bool, true, false, cond, not, _&&_, true≢false, and-assoc, and-true}
 use mathlib.Core.List.{List, [], _∷_}
 use Prim.Native.Nat.{ℕ, zero, suc, _+_, _≤_, _<_}
 use native.Mathlib.Nat.{add-zero, add-suc, suc-add, zero-add, add-assoc}
@@ -13,14 +13,6 @@ use borrow.Author.Tests.{eq-eqb, ne-eqb}
 use Rattle.line_cut.specs.Cut.{lineLength, noFeed}
 
 -- ---- eight characters
-and-assoc : (a b c : Bool) → (a && b) && c ≡ a && (b && c)
-and-assoc true b c = refl
-and-assoc false b c = refl
-
-and-true : (a : Bool) → a && true ≡ a
-and-true true = refl
-and-true false = refl
-
 module _ (input : List ℕ) (i : ℕ) where
   abbrev other : ℕ → Bool
   other k = not (eqb (getD input (i + k) 0) 10)

@@ -1,6 +1,6 @@
 -- Numbers of a frame in a row: a turn of the loop that tests them, and its end; each of them is finite where all are. Assumes nothing.
 use mathlib.Core.Path.{_≡_, refl, sym, _∙_}
-use mathlib.Core.Bool.{Bool, true, false, not, _&&_, true≢false}
+use mathlib.Core.Bool.{Bool, true, false, not, _&&_, and-assoc, and-true, true≢false}
 use Prim.Native.Nat.{ℕ, zero, suc, _+_, _*_, _-_, _%_, _≤_, _<_}
 use native.Mathlib.Nat.{add-assoc}
 use native.Mathlib.Omega.{arith}
@@ -25,19 +25,11 @@ module _ (at : Frame) (from n i : ℕ) where
   turn ok h =
       let e : n - i ≡ suc (n - (i + 1)) = omega arith in
       let f : from + 8 * (i + 1) ≡ (from + 8 * i) + 8 = omega arith in
-      rw (e, f) (assoc ok (finite (numberAt at (from + 8 * i))) (allFinite (numbersAt at (from + 8 * i + 8) (n - (i + 1)))))
-    where
-      assoc : (a b c : Bool) → (a && b) && c ≡ a && (b && c)
-      assoc true b c = refl
-      assoc false b c = refl
+      rw (e, f) (and-assoc ok (finite (numberAt at (from + 8 * i))) (allFinite (numbersAt at (from + 8 * i + 8) (n - (i + 1)))))
 
   pub done : (ok : Bool) → n ≤ i → ok ≡ ok && rest i
   done ok h =
       let e : n - i ≡ 0 = omega arith in rw e (sym (and-true ok))
-    where
-      and-true : (b : Bool) → b && true ≡ b
-      and-true true = refl
-      and-true false = refl
 
 pub start : (at : Frame) (from n : ℕ) → rest at from n 0 0 ≡ allFinite (numbersAt at from n)
 start at from n =

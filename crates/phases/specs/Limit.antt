@@ -10,7 +10,8 @@ use Rattle.phases.specs.declared.limit.Band.{Band}
 abbrev pub directionOf : Float → Direction
 directionOf v-max = cond (lt #0 v-max) UP DOWN
 
--- The upper limit is max where the direction is UP, else min; the lower is the other. Each is widened by V_EPS or A_EPS, both 1e-12.
+-- The upper limit is max where the direction is UP, else min; the lower is the other. Each is widened by V_EPS or
+-- A_EPS, both 1e-12.
 unfoldable pub bandOf : Float → Float → Float → Band
 bandOf v-max max min =
     record {

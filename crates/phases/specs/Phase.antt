@@ -50,7 +50,11 @@ nodeOf m set-limits a-max a-min b i t j q =
     record {
       ok = next .ok;
       left =
-          record { a = set (q .a) (i + 1) (next .a); v = set (q .v) (i + 1) (next .v); p = set (q .p) (i + 1) (next .p) };
+          record {
+            a = set (q .a) (i + 1) (next .a);
+            v = set (q .v) (i + 1) (next .v);
+            p = set (q .p) (i + 1) (next .p);
+          };
     }
 
 -- the same by the seven times and jerks

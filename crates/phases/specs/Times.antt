@@ -1,4 +1,4 @@
--- The phase times: their running sums, up to the first time below 0, and the tests of the label and of the total. Definitions only.
+-- The phase times: running sums up to the first time below 0, and the tests of label and total. Definitions only.
 use mathlib.Core.Bool.{Bool, cond, _&&_, _||_}
 use mathlib.Core.List.{List}
 use Prim.Native.Nat.{ℕ, _+_}

@@ -1,4 +1,5 @@
-// One phase of `check`: the node after it, the accelerations that labels replace, and the velocity at zero acceleration.
+// One phase of `check`: the node after it, the accelerations that labels replace, and the velocity at zero
+// acceleration.
 use super::limit::Band;
 use float::pick;
 use labels::tests::Tests;
@@ -8,7 +9,7 @@ ghost use Rattle.phases.specs.Phase.{replacedOf, zeroInsideOf, nextOf};
 
 const EPSILON: f64 = 2.220446049250313e-16;
 
-pub fn replaced(tests: Tests, set_limits: bool, a_max: f64, a_min: f64, i: usize, a: f64) -> f64
+fn replaced(tests: Tests, set_limits: bool, a_max: f64, a_min: f64, i: usize, a: f64) -> f64
     ensures { λ r. ⌜ r ≡ replacedOf tests «set_limits» «a_max» «a_min» i a ⌝ }
 {
     let x = pick(tests.a3 & (i == 2), 0.0, a);
@@ -17,7 +18,7 @@ pub fn replaced(tests: Tests, set_limits: bool, a_max: f64, a_min: f64, i: usize
     pick(set_limits & tests.set_a1_a5 & (i == 4), a_min, z)
 }
 
-pub fn zero_inside(i: usize, v0: f64, a0: f64, a1: f64, j: f64, band: Band) -> bool
+fn zero_inside(i: usize, v0: f64, a0: f64, a1: f64, j: f64, band: Band) -> bool
     ensures { λ r. ⌜ r ≡ zeroInsideOf i v0 a0 a1 j band ⌝ }
 {
     if (i > 1) & (a1 * a0 < -EPSILON) {

@@ -1,5 +1,4 @@
--- The ways out of `check`: what `checkOf` is, from what each of its parts says on the way there; and a record taken
--- apart, worked on and put together again. Assumes nothing.
+-- The ways out of `check`: what `checkOf` is, from what its parts say on the way there. Assumes nothing.
 use mathlib.Core.Path.{_≡_, ap, _∙_}
 use mathlib.Core.Bool.{Bool, true, false, _&&_}
 use mathlib.Core.List.{List}
@@ -56,6 +55,7 @@ module _ (signs : ControlSigns) (limits : ReachedLimits) (set-limits : Bool) (jf
         unfolding checkOf
         ended a-band ea k = rw (← e, ← em, h, r, ← ej, ← eb, ← ew, ← ea, ← p, k)
 
+-- a record taken apart, worked on and put together again
 pub put-together : (f : Profile → Checked) (q : Profile) (g : Goal) (l : Labels) → g ≡ goalOf q → l ≡ labelsOf q
     → (o : Bool) (r s : Profile) → r ≡ s
     → record { ok = o; profile = s } ≡ f (profileOf (q .t) (q .«t_sum») (q .j) (nodesOf q) g l)

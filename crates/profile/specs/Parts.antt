@@ -1,5 +1,4 @@
--- A profile by its parts, and a profile with one part changed: the one place where its fields are spelt out.
--- Definitions only.
+-- A profile by its parts, and with one part changed: the one place that spells out its fields. Definitions only.
 use mathlib.Core.List.{List}
 use lib.Ieee.{Float}
 use Rattle.labels.specs.declared.Labels.{Labels}

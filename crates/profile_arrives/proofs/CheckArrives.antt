@@ -1,11 +1,15 @@
--- An accepted move arrives.
--- `check` adds the seven phases up in f64s, rounding at every step, and under some labels it sets a[3] to 0. It says yes where the numbers that it recorded
--- are the goal within its tolerances, and keep the limits within theirs. The theorem is about the motion that is really made: from the recorded start, by the
--- recorded times and jerks, each as the exact number that its bits stand for, with no rounding and with no acceleration set to 0.
--- For a start of at most 8 in size, a total time of at most 8 and jerks of at most 64 (`Within`), every recorded number is near that motion's (`check-recorded`).
--- So the motion ends at the goal and keeps its limits, within `check`'s tolerances and the rounding errors (`check-arrives-closely`), and so within the distances that are demanded (`check-arrives`).
--- What setting a[3] to 0 adds is not known here: it is the residual r, and whoever chose the times says how large it is (`Residual`). Where the label sets nothing, r is 0.
--- The limits are finite numbers; nothing is asked of jf but that it is an f64, and nothing of the goal. Assumes nothing.
+-- An accepted move arrives. Assumes nothing.
+-- `check` adds the seven phases up in f64s, rounding at every step, and under some labels it sets a[3] to 0. It says
+-- yes where the numbers that it recorded are the goal within its tolerances, and keep the limits within theirs. The
+-- theorem is about the motion that is really made: from the recorded start, by the recorded times and jerks, each as
+-- the exact number that its bits stand for, with no rounding and with no acceleration set to 0.
+-- For a start of at most 8 in size, a total time of at most 8 and jerks of at most 64 (`Within`), every recorded number
+-- is near that motion's (`check-recorded`). So the motion ends at the goal and keeps its limits, within `check`'s
+-- tolerances and the rounding errors (`check-arrives-closely`), and so within the distances that are demanded
+-- (`check-arrives`).
+-- What setting a[3] to 0 adds is not known here: it is the residual r, and whoever chose the times says how large it is
+-- (`Residual`). Where the label sets nothing, r is 0. The limits are finite numbers; nothing is asked of jf but that it
+-- is an f64, and nothing of the goal.
 use mathlib.Core.Path.{_≡_, sym, ap, subst}
 use mathlib.Core.Logic.{_⊎_, inl, inr}
 use mathlib.Core.Bool.{Bool, true, false, cond, _&&_}
@@ -21,12 +25,12 @@ use Rattle.profile.specs.declared.Profile.{Profile}
 use Rattle.labels.specs.Tests.{testsOf}
 use Rattle.profile.specs.Check.{checkOf}
 use Rattle.rounding.specs.Exact.{D, signed, Below, Same}
-use Rattle.rounding.specs.Value.{unit}
+use Rattle.rounding.specs.Value.{unit, Number}
 use Rattle.rounding.specs.Motion.{lasts, elapsed}
-use Rattle.rounding.specs.Step.{Node, nextA, Replaced}
+use Rattle.rounding.specs.Step.{Node, stepOf, Replaced}
 use Rattle.rounding.specs.Run.{Run, Recorded}
 use Rattle.rounding.proofs.Run.{recorded}
-use Rattle.profile_arrives.specs.Reply.{time, jerk, node, exact, after, upper, lower, Held, Number, Within, Residual}
+use Rattle.profile_arrives.specs.Reply.{time, jerk, node, exact, after, upper, lower, Held, Within, Residual}
 use Rattle.profile_arrives.specs.Arrives.{Arrives, demanded, proved}
 use Rattle.profile_arrives.proofs.Yes.{Yes, check-yes, held-left}
 use Rattle.profile_arrives.proofs.Facts.{end-p, end-v, end-a, end-finite, held-jerk, total-is, limits-kept}
@@ -42,12 +46,19 @@ chosen false b w x z h = inl h
 in-time : (s : D) (e m : ℕ) → Same s (signed false e) → Below s (signed false m) → e ≤ m
 in-time s e m h k = omega arith
 
-module _ {signs : ControlSigns} {limits : ReachedLimits} {jf v-max v-min a-max a-min : Float} {q q' : Profile} (y : Yes signs limits jf v-max v-min a-max a-min q q') (h : Held q) (fj : T (fits binary64 jf)) where
-  next-a : (r : ℕ) → Residual r limits q' → (i : ℕ) → i < 7 → (node q' (suc i) .a ≡ nextA (time q' i) (node q' i .a) (jerk q' i)) ⊎ Replaced r (node q' (suc i) .a) (after q' i .a)
+module _ {signs : ControlSigns} {limits : ReachedLimits} {jf v-max v-min a-max a-min : Float} {q q' : Profile}
+    (y : Yes signs limits jf v-max v-min a-max a-min q q') (h : Held q) (fj : T (fits binary64 jf)) where
+  next-a : (r : ℕ) → Residual r limits q' → (i : ℕ) → i < 7
+      → (node q' (suc i) .a ≡ stepOf (time q' i) (jerk q' i) (node q' i) .a)
+      ⊎ Replaced r (node q' (suc i) .a) (after q' i .a)
   next-a r z i l =
-      elim (chosen (testsOf limits .a3) (eqb i 2) (node q' (suc i) .a) (nextA (time q' i) (node q' i .a) (jerk q' i)) #0 (ap (λ (n : Node). n .a) (y .step i l))) [
+      elim
+      (chosen (testsOf limits .a3) (eqb i 2) (node q' (suc i) .a) (stepOf (time q' i) (jerk q' i) (node q' i) .a) #0
+      (ap (λ (n : Node). n .a) (y .step i l))) [
         | inl e ↦ inl e
-        | inr w ↦ inr (subst (λ (x : Float). Replaced r x (after q' i .a)) (sym (w .2)) (subst (λ (k : ℕ). Replaced r #0 (after q' k .a)) (sym (eqb→eq i 2 (w .1))) (z (w .0))))
+        | inr w ↦ inr
+            (subst (λ (x : Float). Replaced r x (after q' i .a)) (sym (w .2))
+            (subst (λ (k : ℕ). Replaced r #0 (after q' k .a)) (sym (eqb→eq i 2 (w .1))) (z (w .0))))
       ]
 
   pub run-of : (r : ℕ) → r ≤ 2 ^ 40 → Within q' → Residual r limits q' → Run r (time q') (jerk q') (node q')
@@ -65,7 +76,13 @@ module _ {signs : ControlSigns} {limits : ReachedLimits} {jf v-max v-min a-max a
         size-p = w .start-p;
         total = in-time (lasts (time q') 7) (elapsed (time q') 7) (8 * unit) (total-is y h) (w .total);
         jerks = w .jerks;
-        steps = λ (i : ℕ) (l : i < 7). record { position = ap (λ (n : Node). n .p) (y .step i l); velocity = ap (λ (n : Node). n .v) (y .step i l); acceleration = next-a r z i l };
+        steps =
+            λ (i : ℕ) (l : i < 7).
+            record {
+              position = ap (λ (n : Node). n .p) (y .step i l);
+              velocity = ap (λ (n : Node). n .v) (y .step i l);
+              acceleration = next-a r z i l;
+            };
         last-a = end-finite y .0;
         last-v = end-finite y .1;
         last-p = end-finite y .2;
@@ -82,15 +99,19 @@ module _ (signs : ControlSigns) (limits : ReachedLimits) (jf v-max v-min a-max a
   abbrev pub reply : Profile
   reply = checkOf signs limits false jf v-max v-min a-max a-min q .profile
 
-  module _ (h : Held q) (fj : T (fits binary64 jf)) (n-v-max : Number v-max) (n-v-min : Number v-min) (n-a-max : Number a-max) (n-a-min : Number a-min) (accepted : checkOf signs limits false jf v-max v-min a-max a-min q .ok ≡ true) where
+  module _ (h : Held q) (fj : T (fits binary64 jf)) (n-v-max : Number v-max) (n-v-min : Number v-min)
+      (n-a-max : Number a-max) (n-a-min : Number a-min)
+      (accepted : checkOf signs limits false jf v-max v-min a-max a-min q .ok ≡ true) where
     made : Yes signs limits jf v-max v-min a-max a-min q reply
     made = check-yes signs limits jf v-max v-min a-max a-min q h accepted
 
     -- every recorded number is near the exact motion's: within offA r, offV r and offP r times 2 ^ -53
-    pub check-recorded : (r : ℕ) → r ≤ 2 ^ 40 → Within reply → Residual r limits reply → (i : ℕ) → i ≤ 7 → Recorded r (node reply i) (exact reply i)
+    pub check-recorded : (r : ℕ) → r ≤ 2 ^ 40 → Within reply → Residual r limits reply → (i : ℕ) → i ≤ 7
+        → Recorded r (node reply i) (exact reply i)
     check-recorded r few w residual = recorded (run-of made h fj r few w residual)
 
-    arrives : (q' : Profile) → Yes signs limits jf v-max v-min a-max a-min q q' → (r : ℕ) → r ≤ 2 ^ 40 → Within q' → Residual r limits q' → Arrives (proved r) v-max v-min a-max a-min q'
+    arrives : (q' : Profile) → Yes signs limits jf v-max v-min a-max a-min q q' → (r : ℕ) → r ≤ 2 ^ 40 → Within q'
+        → Residual r limits q' → Arrives (proved r) v-max v-min a-max a-min q'
     arrives q' y r few w residual =
         let z = run-of y h fj r few w residual in
         let g = held-left (y .carried) h in
@@ -108,14 +129,21 @@ module _ (signs : ControlSigns) (limits : ReachedLimits) (jf v-max v-min a-max a
           velocity-3 = v-between z 4 (lit≤ tt) (lower v-max v-max v-min) (upper v-max v-max v-min) v-low v-upp (k .v4);
           velocity-4 = v-between z 5 (lit≤ tt) (lower v-max v-max v-min) (upper v-max v-max v-min) v-low v-upp (k .v5);
           velocity-5 = v-between z 6 (lit≤ tt) (lower v-max v-max v-min) (upper v-max v-max v-min) v-low v-upp (k .v6);
-          acceleration-0 = a-between z 1 (lit≤ tt) (lower v-max a-max a-min) (upper v-max a-max a-min) a-low a-upp (k .a1);
-          acceleration-2 = a-between z 3 (lit≤ tt) (lower v-max a-max a-min) (upper v-max a-max a-min) a-low a-upp (k .a3);
-          acceleration-4 = a-between z 5 (lit≤ tt) (lower v-max a-max a-min) (upper v-max a-max a-min) a-low a-upp (k .a5);
+          acceleration-0 =
+              a-between z 1 (lit≤ tt) (lower v-max a-max a-min) (upper v-max a-max a-min) a-low a-upp (k .a1);
+          acceleration-2 =
+              a-between z 3 (lit≤ tt) (lower v-max a-max a-min) (upper v-max a-max a-min) a-low a-upp (k .a3);
+          acceleration-4 =
+              a-between z 5 (lit≤ tt) (lower v-max a-max a-min) (upper v-max a-max a-min) a-low a-upp (k .a5);
         }
 
-    pub check-arrives-closely : (r : ℕ) → r ≤ 2 ^ 40 → Within reply → Residual r limits reply → Arrives (proved r) v-max v-min a-max a-min reply
+    pub check-arrives-closely : (r : ℕ) → r ≤ 2 ^ 40 → Within reply → Residual r limits reply
+        → Arrives (proved r) v-max v-min a-max a-min reply
     check-arrives-closely = arrives reply made
 
     -- a residual of at most 500,000 times 2 ^ -53, 5.6e-11
-    pub check-arrives : (r : ℕ) → r ≤ 500_000 → Within reply → Residual r limits reply → Arrives demanded v-max v-min a-max a-min reply
-    check-arrives r few w residual = wider (proved r) demanded v-max v-min a-max a-min reply (narrower r few) (check-arrives-closely r (le-trans few (lit≤ tt)) w residual)
+    pub check-arrives : (r : ℕ) → r ≤ 500_000 → Within reply → Residual r limits reply
+        → Arrives demanded v-max v-min a-max a-min reply
+    check-arrives r few w residual =
+        wider (proved r) demanded v-max v-min a-max a-min reply (narrower r few)
+        (check-arrives-closely r (le-trans few (lit≤ tt)) w residual)

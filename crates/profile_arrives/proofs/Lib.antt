@@ -1,8 +1,8 @@
+-- From a yes of `check` to the theorem that an accepted move arrives, lowest first.
 pub mod Steps
 pub mod Yes
 pub mod Facts
 pub mod Distances
 pub mod Nodes
-pub mod Residual
 pub mod CheckArrives
 pub mod Worked

@@ -1,4 +1,5 @@
--- A run of `check`'s loop that says yes, backwards: it made every step, and each entry that it left is the step from the entry before. Assumes nothing.
+-- A run of `check`'s loop that says yes, backwards. Assumes nothing.
+-- It made every step, and each entry that it left is the step from the entry before.
 use mathlib.Core.Path.{_≡_, refl, sym, ap, _∙_, subst}
 use mathlib.Core.Bool.{Bool, true, false, cond, true≢false}
 use mathlib.Core.Logic.{inl, inr}
@@ -13,7 +14,7 @@ use Rattle.phases.specs.Phase.{Nodes}
 use Rattle.rounding.specs.Step.{Node}
 
 -- ---- the steps from i on: none is left, or another one
-pub never : (i l : ℕ) → i ≤ l → l < i + 0 → ⊥
+never : (i l : ℕ) → i ≤ l → l < i + 0 → ⊥
 never i l a b = omega arith
 
 pub later : (k i l : ℕ) → i < l → l < i + suc k → (i + 1 ≤ l) × (l < i + 1 + k)
@@ -44,11 +45,12 @@ either-way P false s t h k = k
 
 module _ {X : Type 0} (f : ℕ → X → Step X) where
   -- the first step said yes, and the run is the rest of it
-  pub first : (k i : ℕ) (x : X) → run f (suc k) i x .ok ≡ true → (f i x .ok ≡ true) × (run f (suc k) i x ≡ run f k (i + 1) (f i x .left))
+  first : (k i : ℕ) (x : X) → run f (suc k) i x .ok ≡ true
+      → (f i x .ok ≡ true) × (run f (suc k) i x ≡ run f k (i + 1) (f i x .left))
   unfolding run
   first k i x h = went (f i x .ok) (f i x) (run f k (i + 1) (f i x .left)) refl h
 
-  pub rest : (k i : ℕ) (x : X) → run f (suc k) i x .ok ≡ true → run f k (i + 1) (f i x .left) .ok ≡ true
+  rest : (k i : ℕ) (x : X) → run f (suc k) i x .ok ≡ true → run f k (i + 1) (f i x .left) .ok ≡ true
   rest k i x h = subst (λ (s : Step X). s .ok ≡ true) (first k i x h .1) h
 
   -- every step said yes, to some x
@@ -78,22 +80,33 @@ pub record Begins (n n' : Nodes) : Type 0 where
   pub eight : Eight n'
 
 eight-stored : (n : Nodes) (i : ℕ) (s : Node) → Eight n → Eight (stored n i s)
-eight-stored n i s h = record { eight-a = length-set (n .a) i (s .a) ∙ h .eight-a; eight-v = length-set (n .v) i (s .v) ∙ h .eight-v; eight-p = length-set (n .p) i (s .p) ∙ h .eight-p }
+eight-stored n i s h =
+    record {
+      eight-a = length-set (n .a) i (s .a) ∙ h .eight-a;
+      eight-v = length-set (n .v) i (s .v) ∙ h .eight-v;
+      eight-p = length-set (n .p) i (s .p) ∙ h .eight-p;
+    }
 
-pub made : {a a' v v' p p' : Float} → a ≡ a' → v ≡ v' → p ≡ p' → _≡_ {A = Node} (record { a = a; v = v; p = p }) (record { a = a'; v = v'; p = p' })
+pub made : {a a' v v' p p' : Float} → a ≡ a' → v ≡ v' → p ≡ p'
+    → _≡_ {A = Node} (record { a = a; v = v; p = p }) (record { a = a'; v = v'; p = p' })
 made e f g = cc
 
 at-same : (n : Nodes) (i : ℕ) (s : Node) → Eight n → i < 8 → at (stored n i s) i ≡ s
-at-same n i s h l = made (getD-set-same (n .a) i (s .a) nan (inside (h .eight-a))) (getD-set-same (n .v) i (s .v) nan (inside (h .eight-v))) (getD-set-same (n .p) i (s .p) nan (inside (h .eight-p)))
+at-same n i s h l =
+    made (getD-set-same (n .a) i (s .a) nan (inside (h .eight-a)))
+    (getD-set-same (n .v) i (s .v) nan (inside (h .eight-v))) (getD-set-same (n .p) i (s .p) nan (inside (h .eight-p)))
   where
     inside : {k : ℕ} → k ≡ 8 → i < k
     inside e = subst (λ (z : ℕ). i < z) (sym e) l
 
 at-other : (n : Nodes) (i l : ℕ) (s : Node) → (l ≡ i → ⊥) → at (stored n i s) l ≡ at n l
-at-other n i l s h = made (getD-set-other (n .a) i l (s .a) nan h) (getD-set-other (n .v) i l (s .v) nan h) (getD-set-other (n .p) i l (s .p) nan h)
+at-other n i l s h =
+    made (getD-set-other (n .a) i l (s .a) nan h) (getD-set-other (n .v) i l (s .v) nan h)
+    (getD-set-other (n .p) i l (s .p) nan h)
 
 -- ---- steps that store entry i + 1, made of entry i by g
-module _ (f : ℕ → Nodes → Step Nodes) (g : ℕ → Node → Node) (is : (i : ℕ) (n : Nodes) → f i n .left ≡ stored n (i + 1) (g i (at n i))) where
+module _ (f : ℕ → Nodes → Step Nodes) (g : ℕ → Node → Node)
+    (is : (i : ℕ) (n : Nodes) → f i n .left ≡ stored n (i + 1) (g i (at n i))) where
   eight-after : (i : ℕ) (n : Nodes) → Eight n → Eight (f i n .left)
   eight-after i n h = subst (λ (z : Nodes). Eight z) (sym (is i n)) (eight-stored n (i + 1) (g i (at n i)) h)
 
@@ -101,7 +114,9 @@ module _ (f : ℕ → Nodes → Step Nodes) (g : ℕ → Node → Node) (is : (i
   pub stays : (k i : ℕ) (n : Nodes) (l : ℕ) → l ≤ i → at (run f k i n .left) l ≡ at n l
   unfolding run
   stays zero i n l a = refl
-  stays (suc k) i n l a = either-way (λ (s : Step Nodes). at (s .left) l ≡ at n l) (f i n .ok) (run f k (i + 1) (f i n .left)) (f i n) (stays k (i + 1) (f i n .left) l (more l i a) ∙ one) one
+  stays (suc k) i n l a =
+      either-way (λ (s : Step Nodes). at (s .left) l ≡ at n l) (f i n .ok) (run f k (i + 1) (f i n .left)) (f i n)
+      (stays k (i + 1) (f i n .left) l (more l i a) ∙ one) one
     where
       more : (l i : ℕ) → l ≤ i → l ≤ i + 1
       more l i a = omega arith
@@ -115,20 +130,25 @@ module _ (f : ℕ → Nodes → Step Nodes) (g : ℕ → Node → Node) (is : (i
   eight-stays : (k i : ℕ) (n : Nodes) → Eight n → Eight (run f k i n .left)
   unfolding run
   eight-stays zero i n h = h
-  eight-stays (suc k) i n h = either-way (λ (s : Step Nodes). Eight (s .left)) (f i n .ok) (run f k (i + 1) (f i n .left)) (f i n) (eight-stays k (i + 1) (f i n .left) (eight-after i n h)) (eight-after i n h)
+  eight-stays (suc k) i n h =
+      either-way (λ (s : Step Nodes). Eight (s .left)) (f i n .ok) (run f k (i + 1) (f i n .left)) (f i n)
+      (eight-stays k (i + 1) (f i n .left) (eight-after i n h)) (eight-after i n h)
 
   -- so the first entry and the lengths are as they were
   pub begins : (k : ℕ) (n : Nodes) → Eight n → Begins n (run f k 0 n .left)
   begins k n h = record { start = stays k 0 n 0 (le-refl 0); eight = eight-stays k 0 n h }
 
   -- every entry that the run left is the step from the one before
-  pub follows : (k i : ℕ) (n : Nodes) → Eight n → i + k ≤ 7 → run f k i n .ok ≡ true → (l : ℕ) → i ≤ l → l < i + k → at (run f k i n .left) (l + 1) ≡ g l (at (run f k i n .left) l)
+  pub follows : (k i : ℕ) (n : Nodes) → Eight n → i + k ≤ 7 → run f k i n .ok ≡ true → (l : ℕ) → i ≤ l → l < i + k
+      → at (run f k i n .left) (l + 1) ≡ g l (at (run f k i n .left) l)
   follows zero i n o m h l a b = absurd (never i l a b)
   follows (suc k) i n o m h l a b =
       subst (λ (s : Step Nodes). at (s .left) (l + 1) ≡ g l (at (s .left) l)) (sym (first f k i n h .1))
       (elim (eq-or-lt-of-le a) [
-        | inl e ↦ subst (λ (z : ℕ). at (run f k (i + 1) n' .left) (z + 1) ≡ g z (at (run f k (i + 1) n' .left) z)) e here
-        | inr c ↦ follows k (i + 1) n' (eight-after i n o) (next k i m .0) (rest f k i n h) l (later k i l c b .0) (later k i l c b .1)
+        | inl e ↦ subst (λ (z : ℕ). at (run f k (i + 1) n' .left) (z + 1) ≡ g z (at (run f k (i + 1) n' .left) z)) e
+            here
+        | inr c ↦ follows k (i + 1) n' (eight-after i n o) (next k i m .0) (rest f k i n h) l (later k i l c b .0)
+            (later k i l c b .1)
       ])
     where
       n' : Nodes
@@ -145,4 +165,7 @@ module _ (f : ℕ → Nodes → Step Nodes) (g : ℕ → Node → Node) (is : (i
           stays k (i + 1) n' (i + 1) (next k i m .3)
           ∙ ap (λ (z : Nodes). at z (i + 1)) (is i n)
           ∙ at-same n (i + 1) (g i (at n i)) o (next k i m .1)
-          ∙ ap (λ (z : Node). g i z) (sym (stays k (i + 1) n' i (next k i m .2) ∙ ap (λ (z : Nodes). at z i) (is i n) ∙ at-other n (i + 1) i (g i (at n i)) (apart i)))
+          ∙ ap (λ (z : Node). g i z)
+          (sym
+          (stays k (i + 1) n' i (next k i m .2) ∙ ap (λ (z : Nodes). at z i) (is i n)
+          ∙ at-other n (i + 1) i (g i (at n i)) (apart i)))

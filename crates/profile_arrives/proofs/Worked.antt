@@ -1,4 +1,6 @@
--- The theorem's premises can be met: a move of seven phases of 1 second, jerk 1, from rest at 0 to rest at 8, under a label that sets a[3] to 0. `check` says yes, and the theorem applies. Assumes nothing.
+-- The theorem's premises can be met. Assumes nothing.
+-- A move of seven phases of 1 second, jerk 1, from rest at 0 to rest at 8, under a label that sets a[3] to 0: `check`
+-- says yes, and the theorem applies.
 use mathlib.Core.Path.{_≡_, refl}
 use mathlib.Core.Bool.{true, false}
 use mathlib.Core.List.{List, [], _∷_}
@@ -19,11 +21,13 @@ use Rattle.phases.specs.Run.{run}
 use Rattle.phases.specs.Times.{sumStep, sumsOf, refusedOf}
 use Rattle.phases.specs.Limit.{bandOf}
 use Rattle.phases.specs.Phase.{replacedOf, zeroInsideOf, nodeOf, phaseOf}
+use Rattle.labels.specs.Labels.{labels}
+use Rattle.profile.specs.Parts.{profileOf}
 use Rattle.profile.specs.Check.{arrivedOf, keptOf, checkOf}
 use Rattle.rounding.specs.Exact.{Size}
-use Rattle.rounding.specs.Value.{unit, mag, sign, val}
+use Rattle.rounding.specs.Value.{unit, mag, sign, val, Number}
 use Rattle.rounding.specs.Motion.{motion, lasts}
-use Rattle.profile_arrives.specs.Reply.{time, jerk, Held, Number, Within, Residual}
+use Rattle.profile_arrives.specs.Reply.{time, jerk, Held, Within, Residual}
 use Rattle.profile_arrives.specs.Arrives.{Arrives, demanded}
 use Rattle.profile_arrives.proofs.Steps.{by-seven}
 use Rattle.profile_arrives.proofs.CheckArrives.{reply, check-arrives}
@@ -35,7 +39,9 @@ abbrev seven : List Float
 seven = #1 ∷ #1 ∷ #1 ∷ #1 ∷ #1 ∷ #1 ∷ #1 ∷ []
 
 abbrev asked : Profile
-asked = record { t = seven; «t_sum» = zeros; j = zeros; a = #0 ∷ zeros; v = #0 ∷ zeros; p = #0 ∷ zeros; pf = #8; vf = #0; af = #0; limits = None; direction = UP; «control_signs» = UDDU }
+asked =
+    profileOf seven zeros zeros (record { a = #0 ∷ zeros; v = #0 ∷ zeros; p = #0 ∷ zeros })
+    (record { pf = #8; vf = #0; af = #0 }) (labels None UP UDDU)
 
 abbrev left : Profile
 left = reply UDDU Acc0Acc1Vel #1 #2 (neg #2) #1 (neg #1) asked
@@ -58,8 +64,10 @@ held =
     }
 
 -- all of it computes
-met : (checkOf UDDU Acc0Acc1Vel false #1 #2 (neg #2) #1 (neg #1) asked .ok ≡ true) × Within left × Residual 0 Acc0Acc1Vel left × Number #1 × Number #2 × Number (neg #1) × Number (neg #2)
-unfolding checkOf sumsOf sumStep run refusedOf testsOf jerksOf phaseOf nodeOf replacedOf zeroInsideOf integrateOf bandOf arrivedOf keptOf absOf ofBits neg add sub mul div lt le fits unit mag sign val motion lasts
+met : (checkOf UDDU Acc0Acc1Vel false #1 #2 (neg #2) #1 (neg #1) asked .ok ≡ true) × Within left
+    × Residual 0 Acc0Acc1Vel left × Number #1 × Number #2 × Number (neg #1) × Number (neg #2)
+unfolding checkOf sumsOf sumStep run refusedOf testsOf jerksOf phaseOf nodeOf replacedOf zeroInsideOf integrateOf bandOf
+    arrivedOf keptOf absOf ofBits neg add sub mul div lt le fits unit mag sign val motion lasts
 met = (
   refl,
   record {
@@ -68,15 +76,20 @@ met = (
     start-a = record { over = lit≤ tt; under = lit≤ tt };
     total = lit≤ tt;
     jerks =
-        by-seven (λ (i : ℕ). Size (val (jerk left i)) (64 * unit)) (record { over = lit≤ tt; under = lit≤ tt }) (record { over = lit≤ tt; under = lit≤ tt }) (record { over = lit≤ tt; under = lit≤ tt }) (record { over = lit≤ tt; under = lit≤ tt })
-        (record { over = lit≤ tt; under = lit≤ tt }) (record { over = lit≤ tt; under = lit≤ tt }) (record { over = lit≤ tt; under = lit≤ tt });
+        by-seven (λ (i : ℕ). Size (val (jerk left i)) (64 * unit)) (record { over = lit≤ tt; under = lit≤ tt })
+        (record { over = lit≤ tt; under = lit≤ tt }) (record { over = lit≤ tt; under = lit≤ tt })
+        (record { over = lit≤ tt; under = lit≤ tt })
+        (record { over = lit≤ tt; under = lit≤ tt }) (record { over = lit≤ tt; under = lit≤ tt })
+        (record { over = lit≤ tt; under = lit≤ tt });
   },
   λ h. record { held = tt; err = 0; near = record { over = lit≤ tt; under = lit≤ tt }; bound = lit≤ tt },
-  (tt, tt),
-  (tt, tt),
-  (tt, tt),
-  (tt, tt),
+  record { held = tt; finite = tt },
+  record { held = tt; finite = tt },
+  record { held = tt; finite = tt },
+  record { held = tt; finite = tt },
 )
 
 pub move-arrives : Arrives demanded #2 (neg #2) #1 (neg #1) left
-move-arrives = check-arrives UDDU Acc0Acc1Vel #1 #2 (neg #2) #1 (neg #1) asked held (met .3 .0) (met .4) (met .6) (met .3) (met .5) (met .0) 0 (lit≤ tt) (met .1) (met .2)
+move-arrives =
+    check-arrives UDDU Acc0Acc1Vel #1 #2 (neg #2) #1 (neg #1) asked held (met .3 .held) (met .4) (met .6) (met .3)
+    (met .5) (met .0) 0 (lit≤ tt) (met .1) (met .2)

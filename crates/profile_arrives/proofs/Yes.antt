@@ -1,4 +1,6 @@
--- What `check` leaves as it was, after a no as after a yes, and what a yes says, part by part, of the profile q that it was handed and the profile q' that it left. Assumes nothing.
+-- What `check` leaves as it was, and what a yes says. Assumes nothing.
+-- The first after a no as after a yes; the second part by part, of the profile q that it was handed and the profile q'
+-- that it left.
 use mathlib.Core.Path.{_≡_, refl, sym, subst}
 use mathlib.Core.Bool.{Bool, true, false, cond, not, _&&_, _||_, true≢false}
 use mathlib.Core.List.{List}
@@ -9,7 +11,6 @@ use lib.Dec.{T, eqb}
 use lib.ListN.{getD, set}
 use lib.Ieee.{Float, nan, binary64, lt, fits}
 use Rattle.float.specs.Ops.{_⊕_, #0}
-use Rattle.util.specs.Integrate.{integrateOf}
 use Rattle.labels.specs.declared.ReachedLimits.{ReachedLimits}
 use Rattle.labels.specs.declared.ControlSigns.{ControlSigns}
 use Rattle.labels.specs.declared.tests.Tests.{Tests}
@@ -25,13 +26,14 @@ use Rattle.phases.specs.Phase.{Nodes, replacedOf, nodeOf, phaseOf}
 use Rattle.labels.specs.Labels.{labels}
 use Rattle.profile.specs.Parts.{profileOf, nodesOf, goalOf, labelsOf}
 use Rattle.profile.specs.Check.{arrivedOf, keptOf, checkOf}
-use Rattle.rounding.specs.Step.{Node, nextA, nextV, nextP}
+use Rattle.rounding.specs.Step.{Node, stepOf}
 use Rattle.profile_arrives.specs.Reply.{time, jerk, node, Held}
 use Rattle.profile_arrives.proofs.Steps.{at, stored, Eight, Begins, each-yes, begins, follows}
 
 -- the node after phase i, as `check` records it without set_limits: 0 in the place of a[3] where the label says so
 abbrev pub stepped : Tests → ℕ → Float → Float → Node → Node
-stepped m i t j s = record { a = cond (m .a3 && eqb i 2) #0 (nextA t (s .a) j); v = nextV t (s .v) (s .a) j; p = nextP t (s .p) (s .v) (s .a) j }
+stepped m i t j s =
+    record { a = cond (m .a3 && eqb i 2) #0 (stepOf t j s .a); v = stepOf t j s .v; p = stepOf t j s .p }
 
 -- the times, the goal and the start
 pub record Carried (q q' : Profile) : Type 0 where
@@ -41,7 +43,8 @@ pub record Carried (q q' : Profile) : Type 0 where
   pub af-is : q' .af ≡ q .af
   pub nodes : Begins (nodesOf q) (nodesOf q')
 
-pub record Yes (signs : ControlSigns) (limits : ReachedLimits) (jf v-max v-min a-max a-min : Float) (q q' : Profile) : Type 0 where
+pub record Yes (signs : ControlSigns) (limits : ReachedLimits) (jf v-max v-min a-max a-min : Float)
+    (q q' : Profile) : Type 0 where
   pub carried : Carried q q'
   -- what is written
   pub j-is : q' .j ≡ jerksOf signs (q .t) jf
@@ -56,9 +59,12 @@ pub record Yes (signs : ControlSigns) (limits : ReachedLimits) (jf v-max v-min a
 
 -- ---- the two tests before the end said yes
 abbrev ways : Bool → Bool → Bool → Profile → Profile → Profile → Checked
-ways b c d x y z = cond b (record { ok = false; profile = x }) (cond c (record { ok = d; profile = y }) (record { ok = false; profile = z }))
+ways b c d x y z =
+    cond b (record { ok = false; profile = x })
+    (cond c (record { ok = d; profile = y }) (record { ok = false; profile = z }))
 
-last-way : (b c d : Bool) (x y z : Profile) → ways b c d x y z .ok ≡ true → (b ≡ false) × (c ≡ true) × (d ≡ true) × (ways b c d x y z .profile ≡ y)
+last-way : (b c d : Bool) (x y z : Profile) → ways b c d x y z .ok ≡ true
+    → (b ≡ false) × (c ≡ true) × (d ≡ true) × (ways b c d x y z .profile ≡ y)
 last-way true c d x y z h = absurd (true≢false (sym h))
 last-way false true d x y z h = (refl, refl, h, refl)
 last-way false false d x y z h = absurd (true≢false (sym h))
@@ -85,16 +91,22 @@ times-yes : (t s : List Float) → sumsOf t s .ok ≡ true → (i : ℕ) → i <
 unfolding sumsOf sumStep
 times-yes t s h zero l = kept-on (lt (getD t 0 nan) #0) s (run (sumStep t) 6 0 (set s 0 (getD t 0 nan))) h .0
 times-yes t s h (suc i) l =
-    let w = each-yes (sumStep t) 6 0 (set s 0 (getD t 0 nan)) (kept-on (lt (getD t 0 nan) #0) s (run (sumStep t) 6 0 (set s 0 (getD t 0 nan))) h .1) i zero-le (le-of-suc-le-suc l) in
-    subst (λ (k : ℕ). lt (getD t k nan) #0 ≡ false) (add-one i) (kept-on (lt (getD t (i + 1) nan) #0) (w .0) (yes! (set (w .0) (i + 1) (getD (w .0) i nan ⊕ getD t (i + 1) nan))) (w .1) .0)
+    let w = each-yes (sumStep t) 6 0 (set s 0 (getD t 0 nan))
+    (kept-on (lt (getD t 0 nan) #0) s (run (sumStep t) 6 0 (set s 0 (getD t 0 nan))) h .1) i zero-le
+    (le-of-suc-le-suc l) in
+    subst (λ (k : ℕ). lt (getD t k nan) #0 ≡ false) (add-one i)
+    (kept-on (lt (getD t (i + 1) nan) #0) (w .0) (yes! (set (w .0) (i + 1) (getD (w .0) i nan ⊕ getD t (i + 1) nan)))
+    (w .1) .0)
 
 -- ---- the phases
 module _ (m : Tests) (set-limits : Bool) (a-max a-min : Float) (b : Band) (t j : List Float) where
   abbrev next : ℕ → Node → Node
-  next i s = let w = stepped m i (getD t i nan) (getD j i nan) s in record { a = replacedOf m set-limits a-max a-min i (nextA (getD t i nan) (s .a) (getD j i nan)); v = w .v; p = w .p }
+  next i s =
+      let w = stepOf (getD t i nan) (getD j i nan) s in
+      record { a = replacedOf m set-limits a-max a-min i (w .a); v = w .v; p = w .p }
 
   phase-is : (i : ℕ) (n : Nodes) → phaseOf m set-limits a-max a-min b t j i n .left ≡ stored n (i + 1) (next i (at n i))
-  unfolding phaseOf nodeOf integrateOf
+  unfolding phaseOf nodeOf
   phase-is i n = refl
 
   phases-begin : (n : Nodes) → Eight n → Begins n (run (phaseOf m set-limits a-max a-min b t j) 7 0 n .left)
@@ -104,51 +116,76 @@ module _ (m : Tests) (a-max a-min : Float) (b : Band) (t j : List Float) (n : No
   abbrev ran : Step Nodes
   ran = run (phaseOf m false a-max a-min b t j) 7 0 n
 
-  phases-step : Eight n → ran .ok ≡ true → (i : ℕ) → i < 7 → at (ran .left) (suc i) ≡ stepped m i (getD t i nan) (getD j i nan) (at (ran .left) i)
+  phases-step : Eight n → ran .ok ≡ true → (i : ℕ) → i < 7
+      → at (ran .left) (suc i) ≡ stepped m i (getD t i nan) (getD j i nan) (at (ran .left) i)
   unfolding replacedOf
   phases-step o h i l =
       subst (λ (k : ℕ). at (ran .left) k ≡ next m false a-max a-min b t j i (at (ran .left) i)) (add-one i)
-      (follows (phaseOf m false a-max a-min b t j) (next m false a-max a-min b t j) (phase-is m false a-max a-min b t j) 7 0 n o (le-refl 7) h i zero-le l)
+      (follows (phaseOf m false a-max a-min b t j) (next m false a-max a-min b t j) (phase-is m false a-max a-min b t j)
+      7 0 n o (le-refl 7) h i zero-le l)
 
 -- ---- all of it
 eight-of : (q : Profile) → Held q → Eight (nodesOf q)
 eight-of q h = record { eight-a = h .eight-a; eight-v = h .eight-v; eight-p = h .eight-p }
 
-module _ (signs : ControlSigns) (limits : ReachedLimits) (jf v-max v-min a-max a-min : Float) (q : Profile) (h : Held q) where
-  pub check-carries : (set-limits : Bool) → Carried q (checkOf signs limits set-limits jf v-max v-min a-max a-min q .profile)
+module _ (signs : ControlSigns) (limits : ReachedLimits) (jf v-max v-min a-max a-min : Float) (q : Profile)
+    (h : Held q) where
+  pub check-carries : (set-limits : Bool)
+      → Carried q (checkOf signs limits set-limits jf v-max v-min a-max a-min q .profile)
   unfolding checkOf
   check-carries set-limits =
       let sums = sumsOf (q .t) (q .«t_sum») in
       let j = jerksOf signs (q .t) jf in
-      let nodes = run (phaseOf (testsOf limits) set-limits a-max a-min (bandOf v-max v-max v-min) (q .t) j) 7 0 (nodesOf q) in
-      let begun = phases-begin (testsOf limits) set-limits a-max a-min (bandOf v-max v-max v-min) (q .t) j (nodesOf q) (eight-of q h) in
-      any-way (λ (z : Profile). Carried q z) (not (sums .ok) || refusedOf (testsOf limits) (q .t) (sums .left)) (nodes .ok) (arrivedOf (nodes .left) (goalOf q) && keptOf (nodes .left) (bandOf v-max a-max a-min) (bandOf v-max v-max v-min))
+      let nodes = run (phaseOf (testsOf limits) set-limits a-max a-min (bandOf v-max v-max v-min) (q .t) j) 7 0
+      (nodesOf q) in
+      let begun = phases-begin (testsOf limits) set-limits a-max a-min (bandOf v-max v-max v-min) (q .t) j (nodesOf q)
+      (eight-of q h) in
+      any-way (λ (z : Profile). Carried q z) (not (sums .ok) || refusedOf (testsOf limits) (q .t) (sums .left))
+      (nodes .ok)
+      (arrivedOf (nodes .left) (goalOf q) && keptOf (nodes .left) (bandOf v-max a-max a-min)
+      (bandOf v-max v-max v-min))
       (profileOf (q .t) (sums .left) (q .j) (nodesOf q) (goalOf q) (labelsOf q))
       (profileOf (q .t) (sums .left) j (nodes .left) (goalOf q) (labels limits (directionOf v-max) signs))
-      (profileOf (q .t) (sums .left) j (nodes .left) (goalOf q) (labels (q .limits) (directionOf v-max) (q .«control_signs»)))
-      (record { t-is = refl; pf-is = refl; vf-is = refl; af-is = refl; nodes = record { start = refl; eight = eight-of q h } })
+      (profileOf (q .t) (sums .left) j (nodes .left) (goalOf q)
+      (labels (q .limits) (directionOf v-max) (q .«control_signs»)))
+      (record {
+        t-is = refl;
+        pf-is = refl;
+        vf-is = refl;
+        af-is = refl;
+        nodes = record { start = refl; eight = eight-of q h };
+      })
       (record { t-is = refl; pf-is = refl; vf-is = refl; af-is = refl; nodes = begun })
       (record { t-is = refl; pf-is = refl; vf-is = refl; af-is = refl; nodes = begun })
 
-  pub check-yes : checkOf signs limits false jf v-max v-min a-max a-min q .ok ≡ true → Yes signs limits jf v-max v-min a-max a-min q (checkOf signs limits false jf v-max v-min a-max a-min q .profile)
+  pub check-yes : checkOf signs limits false jf v-max v-min a-max a-min q .ok ≡ true
+      → Yes signs limits jf v-max v-min a-max a-min q
+      (checkOf signs limits false jf v-max v-min a-max a-min q .profile)
   unfolding checkOf
   check-yes said =
       let sums = sumsOf (q .t) (q .«t_sum») in
       let j = jerksOf signs (q .t) jf in
-      let nodes = run (phaseOf (testsOf limits) false a-max a-min (bandOf v-max v-max v-min) (q .t) j) 7 0 (nodesOf q) in
-      let w = last-way (not (sums .ok) || refusedOf (testsOf limits) (q .t) (sums .left)) (nodes .ok) (arrivedOf (nodes .left) (goalOf q) && keptOf (nodes .left) (bandOf v-max a-max a-min) (bandOf v-max v-max v-min))
+      let nodes = run (phaseOf (testsOf limits) false a-max a-min (bandOf v-max v-max v-min) (q .t) j) 7 0
+      (nodesOf q) in
+      let w = last-way (not (sums .ok) || refusedOf (testsOf limits) (q .t) (sums .left)) (nodes .ok)
+      (arrivedOf (nodes .left) (goalOf q) && keptOf (nodes .left) (bandOf v-max a-max a-min)
+      (bandOf v-max v-max v-min))
       (profileOf (q .t) (sums .left) (q .j) (nodesOf q) (goalOf q) (labelsOf q))
       (profileOf (q .t) (sums .left) j (nodes .left) (goalOf q) (labels limits (directionOf v-max) signs))
-      (profileOf (q .t) (sums .left) j (nodes .left) (goalOf q) (labels (q .limits) (directionOf v-max) (q .«control_signs»))) said in
+      (profileOf (q .t) (sums .left) j (nodes .left) (goalOf q)
+      (labels (q .limits) (directionOf v-max) (q .«control_signs»))) said in
       let u = neither (sums .ok) (refusedOf (testsOf limits) (q .t) (sums .left)) (w .0) in
-      let e = both (arrivedOf (nodes .left) (goalOf q)) (keptOf (nodes .left) (bandOf v-max a-max a-min) (bandOf v-max v-max v-min)) (w .2) in
+      let e = both (arrivedOf (nodes .left) (goalOf q))
+      (keptOf (nodes .left) (bandOf v-max a-max a-min) (bandOf v-max v-max v-min)) (w .2) in
       subst (λ (z : Profile). Yes signs limits jf v-max v-min a-max a-min q z) (sym (w .3))
       (record {
         carried = subst (λ (z : Profile). Carried q z) (w .3) (check-carries false);
         j-is = refl;
         limits-is = refl;
         signs-is = refl;
-        step = phases-step (testsOf limits) a-max a-min (bandOf v-max v-max v-min) (q .t) j (nodesOf q) (eight-of q h) (w .1);
+        step =
+            phases-step (testsOf limits) a-max a-min (bandOf v-max v-max v-min) (q .t) j (nodesOf q) (eight-of q h)
+            (w .1);
         not-negative = times-yes (q .t) (q .«t_sum») (u .0);
         not-refused = u .1;
         arrived = e .0;
@@ -159,12 +196,15 @@ module _ (signs : ControlSigns) (limits : ReachedLimits) (jf v-max v-min a-max a
 pub held-left : {q q' : Profile} → Carried q q' → Held q → Held q'
 held-left {q} {q'} c h =
     let w : T (fits binary64 (node q' 0 .a)) × T (fits binary64 (node q' 0 .v)) × T (fits binary64 (node q' 0 .p)) =
-    subst (λ (z : Node). T (fits binary64 (z .a)) × T (fits binary64 (z .v)) × T (fits binary64 (z .p))) (sym (c .nodes .start)) (h .held-a, h .held-v, h .held-p) in
+    subst (λ (z : Node). T (fits binary64 (z .a)) × T (fits binary64 (z .v)) × T (fits binary64 (z .p)))
+    (sym (c .nodes .start)) (h .held-a, h .held-v, h .held-p) in
     record {
       eight-a = c .nodes .eight .eight-a;
       eight-v = c .nodes .eight .eight-v;
       eight-p = c .nodes .eight .eight-p;
-      held-t = λ (i : ℕ) (l : i < 7). subst (λ (t : List Float). T (fits binary64 (getD t i nan))) (sym (c .t-is)) (h .held-t i l);
+      held-t =
+          λ (i : ℕ) (l : i < 7). subst (λ (t : List Float). T (fits binary64 (getD t i nan))) (sym (c .t-is))
+          (h .held-t i l);
       held-a = w .0;
       held-v = w .1;
       held-p = w .2;

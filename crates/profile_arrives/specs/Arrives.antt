@@ -1,4 +1,5 @@
--- That an exact motion arrives and keeps its limits, by given distances; the distances of the demand, and those that are proved. Definitions only.
+-- That an exact motion arrives and keeps its limits, by given distances. Definitions only.
+-- And the distances of the demand, and those that are proved.
 use mathlib.Core.Bool.{false}
 use Prim.Native.Nat.{ℕ, _+_, _*_, _^_}
 use lib.Ieee.{Float}
@@ -18,7 +19,8 @@ infix 60 _over_
 abbrev pub _over_ : ℕ → ℕ → Fraction
 m over d = record { m = m; d = d }
 
--- K is `perP`, `perV` or `perA`: a float x is K ⊙ val x in the units of the exact motion, and the number 1 is K * unit there.
+-- K is `perP`, `perV` or `perA`: a float x is K ⊙ val x in the units of the exact motion, and the number 1 is K * unit
+-- there.
 -- The exact number X is within f of the float x: |d X - d x| ≤ m.
 abbrev pub At : Fraction → ℕ → D → Float → Type 0
 At f K X x = Near (f .d ⊙ X) (f .d ⊙ (K ⊙ val x)) (f .m * (K * unit))
@@ -36,7 +38,8 @@ pub record Distances : Type 0 where
   pub velocity-limit : Fraction
   pub acceleration-limit : Fraction
 
--- The exact motion of the profile q ends at its goal, keeps between its velocity limits after phases 2 to 5 and between its acceleration limits after phases 0, 2 and 4, each within w.
+-- The exact motion of the profile q ends at its goal, keeps between its velocity limits after phases 2 to 5 and between
+-- its acceleration limits after phases 0, 2 and 4, each within w.
 pub record Arrives (w : Distances) (v-max v-min a-max a-min : Float) (q : Profile) : Type 0 where
   pub position : At (w .position) perP (after q 6 .p) (q .pf)
   pub velocity : At (w .velocity) perV (after q 6 .v) (q .vf)
@@ -45,11 +48,15 @@ pub record Arrives (w : Distances) (v-max v-min a-max a-min : Float) (q : Profil
   pub velocity-3 : Between (w .velocity-limit) perV (lower v-max v-max v-min) (after q 3 .v) (upper v-max v-max v-min)
   pub velocity-4 : Between (w .velocity-limit) perV (lower v-max v-max v-min) (after q 4 .v) (upper v-max v-max v-min)
   pub velocity-5 : Between (w .velocity-limit) perV (lower v-max v-max v-min) (after q 5 .v) (upper v-max v-max v-min)
-  pub acceleration-0 : Between (w .acceleration-limit) perA (lower v-max a-max a-min) (after q 0 .a) (upper v-max a-max a-min)
-  pub acceleration-2 : Between (w .acceleration-limit) perA (lower v-max a-max a-min) (after q 2 .a) (upper v-max a-max a-min)
-  pub acceleration-4 : Between (w .acceleration-limit) perA (lower v-max a-max a-min) (after q 4 .a) (upper v-max a-max a-min)
+  pub acceleration-0 : Between (w .acceleration-limit) perA (lower v-max a-max a-min) (after q 0 .a)
+      (upper v-max a-max a-min)
+  pub acceleration-2 : Between (w .acceleration-limit) perA (lower v-max a-max a-min) (after q 2 .a)
+      (upper v-max a-max a-min)
+  pub acceleration-4 : Between (w .acceleration-limit) perA (lower v-max a-max a-min) (after q 4 .a)
+      (upper v-max a-max a-min)
 
--- the demand: 2e-8 of the position and the velocity, 2e-10 of the acceleration, 1e-8 of the velocity limits, 1e-10 of the acceleration limits
+-- the demand: 2e-8 of the position and the velocity, 2e-10 of the acceleration, 1e-8 of the velocity limits, 1e-10 of
+-- the acceleration limits
 abbrev pub demanded : Distances
 demanded =
     record {
@@ -64,8 +71,10 @@ demanded =
 abbrev pub part : ℕ → ℕ → Fraction
 part k c = (2 ^ 53 + k * c) over (k * 2 ^ 53)
 
--- What is proved, where the residual of a[3] is r: `check`'s own tolerance, 1e-8, 1e-10 or 1e-12, and the rounding errors, which are multiples of 2 ^ -53.
--- For r = 1540 that is 1.04e-8, 1.003e-8, 1.02e-10, 2.7e-11 and 2.5e-12; every 1000 more of r add 1.1e-11 to the position, 8.9e-13 to the velocities and 1.2e-13 to the accelerations.
+-- What is proved, where the residual of a[3] is r: `check`'s own tolerance, 1e-8, 1e-10 or 1e-12, and the rounding
+-- errors, which are multiples of 2 ^ -53.
+-- For r = 1540 that is 1.04e-8, 1.003e-8, 1.02e-10, 2.7e-11 and 2.5e-12; every 1000 more of r add 1.1e-11 to the
+-- position, 8.9e-13 to the velocities and 1.2e-13 to the accelerations.
 abbrev pub proved : ℕ → Distances
 proved r =
     record {

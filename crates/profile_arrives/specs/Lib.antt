@@ -1,2 +1,3 @@
+-- What is asked of a profile, and what it is to arrive.
 pub mod Reply
 pub mod Arrives

@@ -1,4 +1,5 @@
--- A profile as numbers with an index, the exact motion that its times and jerks stand for, and what is asked of it. Definitions only.
+-- A profile as numbers with an index, and the exact motion that it stands for. Definitions only.
+-- And what is asked of a profile.
 use mathlib.Core.Path.{_≡_}
 use mathlib.Core.Bool.{cond, false}
 use Prim.Native.Nat.{ℕ, suc, _*_, _<_}
@@ -10,7 +11,7 @@ use Rattle.labels.specs.declared.ReachedLimits.{ReachedLimits}
 use Rattle.profile.specs.declared.Profile.{Profile}
 use Rattle.labels.specs.Tests.{testsOf}
 use Rattle.rounding.specs.Exact.{Size, Below, signed}
-use Rattle.rounding.specs.Value.{unit, val, Finite}
+use Rattle.rounding.specs.Value.{unit, val}
 use Rattle.rounding.specs.Motion.{Moving, motion, lasts}
 use Rattle.rounding.specs.Step.{Node, from, Replaced}
 
@@ -25,7 +26,8 @@ jerk q i = getD (q .j) i nan
 abbrev pub node : Profile → ℕ → Node
 node q i = record { a = getD (q .a) i nan; v = getD (q .v) i nan; p = getD (q .p) i nan }
 
--- The exact motion: its state after the first i phases, from the recorded start, by the recorded times and jerks, and by nothing else of the record. No acceleration is replaced.
+-- The exact motion: its state after the first i phases, from the recorded start, by the recorded times and jerks, and
+-- by nothing else of the record. No acceleration is replaced.
 abbrev pub exact : Profile → ℕ → Moving
 exact q i = motion (time q) (jerk q) (from (node q 0)) i
 
@@ -53,11 +55,8 @@ pub record Held (q : Profile) : Type 0 where
   pub held-vf : T (fits binary64 (q .vf))
   pub held-af : T (fits binary64 (q .af))
 
--- a finite f64
-abbrev pub Number : Float → Type 0
-Number x = T (fits binary64 x) × Finite x
-
--- Starting position, velocity and acceleration of at most 8 in size, exact total time at most 8, recorded jerks at most 64 in size.
+-- Starting position, velocity and acceleration of at most 8 in size, exact total time at most 8, recorded jerks at most
+-- 64 in size.
 -- `val` takes a NaN and an infinity for 0. There is none here after a yes: `yes-finite` in proofs/Facts.antt.
 pub record Within (q : Profile) : Type 0 where
   pub start-p : Size (val (node q 0 .p)) (8 * unit)

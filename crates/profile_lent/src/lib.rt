@@ -17,7 +17,8 @@ pub fn set_boundary(
     vf_new: f64,
     af_new: f64,
 )
-    ensures { λ _. ⌜ now (p .exit) ≡ boundaryOf «p0_new» «v0_new» «a0_new» «pf_new» «vf_new» «af_new» (now (p .entry)) ⌝ }
+    ensures { λ _. ⌜ now (p .exit)
+        ≡ boundaryOf «p0_new» «v0_new» «a0_new» «pf_new» «vf_new» «af_new» (now (p .entry)) ⌝ }
 {
     let q = *p;
     *p = q.set_boundary(p0_new, v0_new, a0_new, pf_new, vf_new, af_new);
@@ -34,7 +35,8 @@ pub fn check(
     a_max: f64,
     a_min: f64,
 ) -> bool
-    ensures { λ r. ⌜ record { ok = r; profile = now (p .exit) } ≡ checkOf «control_signs» limits «set_limits» jf «v_max» «v_min» «a_max» «a_min» (now (p .entry)) ⌝ }
+    ensures { λ r. ⌜ record { ok = r; profile = now (p .exit) } ≡ checkOf «control_signs» limits «set_limits»
+        jf «v_max» «v_min» «a_max» «a_min» (now (p .entry)) ⌝ }
 {
     let q = *p;
     let c = q.check(
@@ -61,7 +63,8 @@ pub fn check_with_timing(
     a_max: f64,
     a_min: f64,
 ) -> bool
-    ensures { λ r. ⌜ record { ok = r; profile = now (p .exit) } ≡ checkOf «control_signs» limits false jf «v_max» «v_min» «a_max» «a_min» (now (p .entry)) ⌝ }
+    ensures { λ r. ⌜ record { ok = r; profile = now (p .exit) }
+        ≡ checkOf «control_signs» limits false jf «v_max» «v_min» «a_max» «a_min» (now (p .entry)) ⌝ }
 {
     check(
         p,

@@ -1,22 +1,25 @@
--- What a comparison of finite f64s says of their values, and what any true comparison says of its operands. Assumes nothing.
+-- What a comparison of finite f64s says of their values, and when it is finite. Assumes nothing.
 use mathlib.Core.Path.{_≡_, refl, sym, _∙_, subst}
 use mathlib.Core.Logic.{_⊎_, inl, inr}
 use Prim.Native.Nat.{ℕ, _+_, _*_, _≤_, _<_}
-use native.Mathlib.Nat.{le-of-eq, le-antisymm, lt-of-le-of-lt, lt-of-lt-of-le, zero-mul, mul-pos, mul-lt-mul-of-pos-right, lt-of-mul-lt-mul-right}
+use native.Mathlib.Nat.{le-of-eq, le-antisymm, lt-of-le-of-lt, lt-of-lt-of-le, zero-mul, mul-pos}
+use native.Mathlib.Nat.{mul-lt-mul-of-pos-right, lt-of-mul-lt-mul-right}
 use native.Mathlib.Omega.{arith}
 use mathlib.Core.Bool.{Bool, true, false, not, _||_, Bool·beq, true≢false}
 use lib.IntN.{ℤ}
-use lib.Dec.{T, eqb, ltb→lt, nltb→le, eqb→eq, T-not}
-use lib.Arith.{lt-of-le-ne}
-use lib.Ieee.{Float, nan, inf, fin, binary64, up, down, below, level, lt, le, eq, isNan, fits}
-use lib.Ieee.Fits.{down-pos, and-l, and-r, and-i, eq→eqb}
+use lib.Dec.{T, eqb, ltb→lt, nltb→le, eqb→eq}
+use lib.Ieee.{Float, nan, inf, fin, binary64, up, down, below, level, lt, le, eq, fits}
+use lib.Ieee.Fits.{down-pos, and-l, and-r}
 use Rattle.rounding.specs.Exact.{D, signed, Size, Below, Less, Same}
 use Rattle.rounding.specs.Value.{unit, mag, sign, val, Finite}
 use Rattle.rounding.proofs.Unit.{mag-exact, unit-pos, cross, cross', both-in, le-in}
 
--- ---- a comparison goes by the sizes a and b over one denominator; in units they are X and Y: a * U ≡ X * c and b * U ≡ Y * c
+-- ---- a comparison goes by the sizes a and b over one denominator; in units they are X and Y: a * U ≡ X * c and b * U
+-- ≡ Y * c
 lt-in : (a b c X Y U : ℕ) → 0 < U → a * U ≡ X * c → b * U ≡ Y * c → a < b → X < Y
-lt-in a b c X Y U P p q h = lt-of-mul-lt-mul-right c (lt-of-le-of-lt (le-of-eq (sym p)) (lt-of-lt-of-le (mul-lt-mul-of-pos-right h P) (le-of-eq q)))
+lt-in a b c X Y U P p q h =
+    lt-of-mul-lt-mul-right c
+    (lt-of-le-of-lt (le-of-eq (sym p)) (lt-of-lt-of-le (mul-lt-mul-of-pos-right h P) (le-of-eq q)))
 
 no-size : (c U : ℕ) → 0 * U ≡ 0 * c
 no-size c U = zero-mul U ∙ sym (zero-mul c)
@@ -25,34 +28,20 @@ or-cases : (a b : Bool) → T (a || b) → T a ⊎ T b
 or-cases true b t = inl tt
 or-cases false b t = inr t
 
-or-l : (a b : Bool) → T a → T (a || b)
-or-l true b t = tt
-or-l false b t = absurd t
-
-or-r : (a b : Bool) → T b → T (a || b)
-or-r true b t = tt
-or-r false b t = t
-
-neither-l : (a b : Bool) → T (not (a || b)) → T (not a)
-neither-l true b t = t
-neither-l false b t = tt
-
-neither-r : (a b : Bool) → T (not (a || b)) → T (not b)
-neither-r true b t = absurd t
-neither-r false b t = t
-
 module _ (a b c X Y U : ℕ) (C : 0 < c) (P : 0 < U) (p : a * U ≡ X * c) (q : b * U ≡ Y * c) where
   below-less : (s t : Bool) → T (below s a t b) → Less (signed s X) (signed t Y)
   below-less false false h = omega (arith, lt-in a b c X Y U P p q (ltb→lt a b h))
   below-less false true h = absurd h
   below-less true true h = omega (arith, lt-in b a c Y X U P q p (ltb→lt b a h))
-  below-less true false h = omega (arith, lt-in 0 (a + b) c 0 (X + Y) U P (no-size c U) (both-in a b c X Y U p q) (ltb→lt 0 (a + b) h))
+  below-less true false h =
+      omega (arith, lt-in 0 (a + b) c 0 (X + Y) U P (no-size c U) (both-in a b c X Y U p q) (ltb→lt 0 (a + b) h))
 
   below-not : (s t : Bool) → T (not (below s a t b)) → Below (signed t Y) (signed s X)
   below-not false false h = omega (arith, le-in b a c Y X U C q p (nltb→le a b h))
   below-not false true h = omega arith
   below-not true true h = omega (arith, le-in a b c X Y U C p q (nltb→le b a h))
-  below-not true false h = omega (arith, le-in (a + b) 0 c (X + Y) 0 U C (both-in a b c X Y U p q) (no-size c U) (nltb→le 0 (a + b) h))
+  below-not true false h =
+      omega (arith, le-in (a + b) 0 c (X + Y) 0 U C (both-in a b c X Y U p q) (no-size c U) (nltb→le 0 (a + b) h))
 
   equal : a ≡ b → X ≡ Y
   equal e = le-antisymm (le-in a b c X Y U C p q (le-of-eq e)) (le-in b a c Y X U C q p (le-of-eq (sym e)))
@@ -61,7 +50,9 @@ module _ (a b c X Y U : ℕ) (C : 0 < c) (P : 0 < U) (p : a * U ≡ X * c) (q : 
   none e = le-in a 0 c X 0 U C p (no-size c U) (le-of-eq e)
 
   level-same : (s t : Bool) → T (level s a t b) → Same (signed s X) (signed t Y)
-  level-same s t h = go s t (equal (eqb→eq a b (and-l (eqb a b) (Bool·beq s t || eqb a 0) h))) (or-cases (Bool·beq s t) (eqb a 0) (and-r (eqb a b) (Bool·beq s t || eqb a 0) h))
+  level-same s t h =
+      go s t (equal (eqb→eq a b (and-l (eqb a b) (Bool·beq s t || eqb a 0) h)))
+      (or-cases (Bool·beq s t) (eqb a 0) (and-r (eqb a b) (Bool·beq s t || eqb a 0) h))
     where
       go : (s t : Bool) → X ≡ Y → T (Bool·beq s t) ⊎ T (eqb a 0) → Same (signed s X) (signed t Y)
       go true true e k = omega arith
@@ -71,45 +62,9 @@ module _ (a b c X Y U : ℕ) (C : 0 < c) (P : 0 < U) (p : a * U ≡ X * c) (q : 
       go true false e (inr k) = omega (arith, none (eqb→eq a 0 k))
       go false true e (inr k) = omega (arith, none (eqb→eq a 0 k))
 
--- the other way: the same size in units is the same size
-same-level : (a b c X Y U : ℕ) → 0 < c → 0 < U → a * U ≡ X * c → b * U ≡ Y * c → (s t : Bool) → Same (signed s X) (signed t Y) → T (level s a t b)
-same-level a b c X Y U C P p q s t h = go s t h
-  where
-    ab : X ≡ Y → a ≡ b
-    ab e = equal X Y U a b c P C (sym p) (sym q) e
-
-    zero-size : X ≤ 0 → a ≡ 0
-    zero-size e = le-antisymm (none X Y U a b c P C (sym p) (sym q) (le-antisymm e (lower X))) (lower a)
-      where
-        lower : (z : ℕ) → 0 ≤ z
-        lower z = omega arith
-
-    go : (s t : Bool) → Same (signed s X) (signed t Y) → T (level s a t b)
-    go true true h = and-i (eqb a b) true (eq→eqb (ab (like X Y h))) tt
-      where
-        like : (X Y : ℕ) → 0 + Y ≡ 0 + X → X ≡ Y
-        like X Y e = omega arith
-    go false false h = and-i (eqb a b) true (eq→eqb (ab (like X Y h))) tt
-      where
-        like : (X Y : ℕ) → X + 0 ≡ Y + 0 → X ≡ Y
-        like X Y e = omega arith
-    go true false h = and-i (eqb a b) (false || eqb a 0) (eq→eqb (ab (like X Y h))) (or-r false (eqb a 0) (eq→eqb (zero-size (little X Y h))))
-      where
-        like : (X Y : ℕ) → 0 + 0 ≡ Y + X → X ≡ Y
-        like X Y e = omega arith
-
-        little : (X Y : ℕ) → 0 + 0 ≡ Y + X → X ≤ 0
-        little X Y e = omega arith
-    go false true h = and-i (eqb a b) (false || eqb a 0) (eq→eqb (ab (like X Y h))) (or-r false (eqb a 0) (eq→eqb (zero-size (little X Y h))))
-      where
-        like : (X Y : ℕ) → X + Y ≡ 0 + 0 → X ≡ Y
-        like X Y e = omega arith
-
-        little : (X Y : ℕ) → X + Y ≡ 0 + 0 → X ≤ 0
-        little X Y e = omega arith
-
 -- ---- finite floats
-module _ (s : Bool) (m : ℕ) (e : ℤ) (t : Bool) (n : ℕ) (d : ℤ) (f : T (fits binary64 (fin s m e))) (g : T (fits binary64 (fin t n d))) where
+module _ (s : Bool) (m : ℕ) (e : ℤ) (t : Bool) (n : ℕ) (d : ℤ) (f : T (fits binary64 (fin s m e)))
+    (g : T (fits binary64 (fin t n d))) where
   C : 0 < down e * down d
   C = mul-pos (down-pos e) (down-pos d)
 
@@ -121,50 +76,48 @@ module _ (s : Bool) (m : ℕ) (e : ℤ) (t : Bool) (n : ℕ) (d : ℤ) (f : T (f
 
   fin-less : T (lt (fin s m e) (fin t n d)) → Less (val (fin s m e)) (val (fin t n d))
   unfolding lt val sign
-  fin-less h = below-less (m * up e * down d) (n * up d * down e) (down e * down d) (mag (fin s m e)) (mag (fin t n d)) unit C unit-pos p q s t h
+  fin-less h =
+      below-less (m * up e * down d) (n * up d * down e) (down e * down d) (mag (fin s m e)) (mag (fin t n d)) unit C
+      unit-pos p q s t h
 
   fin-not : T (not (lt (fin s m e) (fin t n d))) → Below (val (fin t n d)) (val (fin s m e))
   unfolding lt val sign
-  fin-not h = below-not (m * up e * down d) (n * up d * down e) (down e * down d) (mag (fin s m e)) (mag (fin t n d)) unit C unit-pos p q s t h
+  fin-not h =
+      below-not (m * up e * down d) (n * up d * down e) (down e * down d) (mag (fin s m e)) (mag (fin t n d)) unit C
+      unit-pos p q s t h
 
   fin-same : T (eq (fin s m e) (fin t n d)) → Same (val (fin s m e)) (val (fin t n d))
   unfolding eq val sign
-  fin-same h = level-same (m * up e * down d) (n * up d * down e) (down e * down d) (mag (fin s m e)) (mag (fin t n d)) unit C unit-pos p q s t h
+  fin-same h =
+      level-same (m * up e * down d) (n * up d * down e) (down e * down d) (mag (fin s m e)) (mag (fin t n d)) unit C
+      unit-pos p q s t h
 
-  fin-other : T (not (eq (fin s m e) (fin t n d))) → Same (val (fin s m e)) (val (fin t n d)) → ⊥
-  unfolding eq val sign
-  fin-other h k = T-not (eq (fin s m e) (fin t n d)) h (same-level (m * up e * down d) (n * up d * down e) (down e * down d) (mag (fin s m e)) (mag (fin t n d)) unit C unit-pos p q s t k)
+-- what holds of two finite floats that fit
+by-finite : (P : Float → Float → Type 0)
+    → ((s : Bool) (m : ℕ) (e : ℤ) (t : Bool) (n : ℕ) (d : ℤ)
+    → T (fits binary64 (fin s m e)) → T (fits binary64 (fin t n d)) → P (fin s m e) (fin t n d))
+    → (x y : Float) → T (fits binary64 x) → T (fits binary64 y) → Finite x → Finite y → P x y
+by-finite P h nan y f g k l = absurd k
+by-finite P h (inf s) y f g k l = absurd k
+by-finite P h (fin s m e) nan f g k l = absurd l
+by-finite P h (fin s m e) (inf t) f g k l = absurd l
+by-finite P h (fin s m e) (fin t n d) f g k l = h s m e t n d f g
 
--- `lt`, `le` and `eq` of finite floats, true and false
-pub lt-less : (x y : Float) → T (fits binary64 x) → T (fits binary64 y) → Finite x → Finite y → T (lt x y) → Less (val x) (val y)
-lt-less nan y f g k l h = absurd k
-lt-less (inf s) y f g k l h = absurd k
-lt-less (fin s m e) nan f g k l h = absurd l
-lt-less (fin s m e) (inf t) f g k l h = absurd l
-lt-less (fin s m e) (fin t n d) f g k l h = fin-less s m e t n d f g h
+-- `lt`, `le` and `eq` of finite floats
+lt-less : (x y : Float) → T (fits binary64 x) → T (fits binary64 y) → Finite x → Finite y → T (lt x y)
+    → Less (val x) (val y)
+lt-less = by-finite (λ (x y : Float). T (lt x y) → Less (val x) (val y)) fin-less
 
-pub lt-not : (x y : Float) → T (fits binary64 x) → T (fits binary64 y) → Finite x → Finite y → T (not (lt x y)) → Below (val y) (val x)
-lt-not nan y f g k l h = absurd k
-lt-not (inf s) y f g k l h = absurd k
-lt-not (fin s m e) nan f g k l h = absurd l
-lt-not (fin s m e) (inf t) f g k l h = absurd l
-lt-not (fin s m e) (fin t n d) f g k l h = fin-not s m e t n d f g h
+pub lt-not : (x y : Float) → T (fits binary64 x) → T (fits binary64 y) → Finite x → Finite y → T (not (lt x y))
+    → Below (val y) (val x)
+lt-not = by-finite (λ (x y : Float). T (not (lt x y)) → Below (val y) (val x)) fin-not
 
-pub eq-same : (x y : Float) → T (fits binary64 x) → T (fits binary64 y) → Finite x → Finite y → T (eq x y) → Same (val x) (val y)
-eq-same nan y f g k l h = absurd k
-eq-same (inf s) y f g k l h = absurd k
-eq-same (fin s m e) nan f g k l h = absurd l
-eq-same (fin s m e) (inf t) f g k l h = absurd l
-eq-same (fin s m e) (fin t n d) f g k l h = fin-same s m e t n d f g h
+eq-same : (x y : Float) → T (fits binary64 x) → T (fits binary64 y) → Finite x → Finite y → T (eq x y)
+    → Same (val x) (val y)
+eq-same = by-finite (λ (x y : Float). T (eq x y) → Same (val x) (val y)) fin-same
 
-pub eq-not : (x y : Float) → T (fits binary64 x) → T (fits binary64 y) → Finite x → Finite y → T (not (eq x y)) → Same (val x) (val y) → ⊥
-eq-not nan y f g k l h z = absurd k
-eq-not (inf s) y f g k l h z = absurd k
-eq-not (fin s m e) nan f g k l h z = absurd l
-eq-not (fin s m e) (inf t) f g k l h z = absurd l
-eq-not (fin s m e) (fin t n d) f g k l h z = fin-other s m e t n d f g h z
-
-pub le-below : (x y : Float) → T (fits binary64 x) → T (fits binary64 y) → Finite x → Finite y → T (le x y) → Below (val x) (val y)
+pub le-below : (x y : Float) → T (fits binary64 x) → T (fits binary64 y) → Finite x → Finite y → T (le x y)
+    → Below (val x) (val y)
 unfolding le
 le-below x y f g k l h = go (or-cases (lt x y) (eq x y) h)
   where
@@ -178,37 +131,7 @@ le-below x y f g k l h = go (or-cases (lt x y) (eq x y) h)
     go (inl z) = less-is (val x) (val y) (lt-less x y f g k l z)
     go (inr z) = same-is (val x) (val y) (eq-same x y f g k l z)
 
-pub le-not : (x y : Float) → T (fits binary64 x) → T (fits binary64 y) → Finite x → Finite y → T (not (le x y)) → Less (val y) (val x)
-unfolding le
-le-not x y f g k l h = strict (val x) (val y) (lt-not x y f g k l (neither-l (lt x y) (eq x y) h)) (eq-not x y f g k l (neither-r (lt x y) (eq x y) h))
-  where
-    strict : (a b : D) → Below b a → (Same a b → ⊥) → Less b a
-    strict a b z w = lt-of-le-ne z (λ (e : b .p + a .n ≡ a .p + b .n). w (sym e))
-
 -- ---- a true comparison has no NaN
-pub lt-numbers : (x y : Float) → T (lt x y) → T (not (isNan x)) × T (not (isNan y))
-unfolding lt isNan
-lt-numbers nan y h = absurd h
-lt-numbers (inf s) nan h = absurd h
-lt-numbers (inf s) (inf t) h = (tt, tt)
-lt-numbers (inf s) (fin t n d) h = (tt, tt)
-lt-numbers (fin s m e) nan h = absurd h
-lt-numbers (fin s m e) (inf t) h = (tt, tt)
-lt-numbers (fin s m e) (fin t n d) h = (tt, tt)
-
-pub eq-numbers : (x y : Float) → T (eq x y) → T (not (isNan x)) × T (not (isNan y))
-unfolding eq isNan
-eq-numbers nan y h = absurd h
-eq-numbers (inf s) nan h = absurd h
-eq-numbers (inf s) (inf t) h = (tt, tt)
-eq-numbers (inf s) (fin t n d) h = (tt, tt)
-eq-numbers (fin s m e) nan h = absurd h
-eq-numbers (fin s m e) (inf t) h = (tt, tt)
-eq-numbers (fin s m e) (fin t n d) h = (tt, tt)
-
-pub le-numbers : (x y : Float) → T (le x y) → T (not (isNan x)) × T (not (isNan y))
-unfolding le
-le-numbers x y h = elim (or-cases (lt x y) (eq x y) h) [ inl z ↦ lt-numbers x y z | inr z ↦ eq-numbers x y z ]
 
 -- ---- an absolute value below a limit. a is d with its sign cleared: `val a ≡ signed false (mag d)`
 pub val-size : (x : Float) → Size (val x) (mag x)
@@ -218,6 +141,14 @@ val-size x = go (sign x) (mag x)
     go : (s : Bool) (k : ℕ) → Size (signed s k) k
     go true k = omega arith
     go false k = omega arith
+
+pub size-mag : (x : Float) (M : ℕ) → Size (val x) M → mag x ≤ M
+unfolding val
+size-mag x M s = go (sign x) (mag x) s
+  where
+    go : (s : Bool) (k : ℕ) → Size (signed s k) M → k ≤ M
+    go true k h = omega arith
+    go false k h = omega arith
 
 pub mag-sum : (x : Float) → val x .p + val x .n ≡ mag x
 unfolding val
@@ -241,8 +172,11 @@ lt-finite (inf false) (inf t) z h = absurd h
 lt-finite (inf false) (fin t n d) z h = absurd h
 lt-finite (fin s m e) c z h = tt
 
-pub lt-size : (a d c : Float) → T (fits binary64 a) → T (fits binary64 c) → Finite a → Finite c → val a ≡ signed false (mag d) → T (lt a c) → Size (val d) (mag c)
-lt-size a d c f g k l e h = go (val d) (val c) (mag d) (mag c) (val-size d) (val-size c) (subst (λ (z : D). Less z (val c)) e (lt-less a c f g k l h))
+pub lt-size : (a d c : Float) → T (fits binary64 a) → T (fits binary64 c) → Finite a → Finite c
+    → val a ≡ signed false (mag d) → T (lt a c) → Size (val d) (mag c)
+lt-size a d c f g k l e h =
+    go (val d) (val c) (mag d) (mag c) (val-size d) (val-size c)
+    (subst (λ (z : D). Less z (val c)) e (lt-less a c f g k l h))
   where
     go : (x y : D) (m n : ℕ) → Size x m → Size y n → Less (signed false m) y → Size x n
     go x y m n a b c = omega arith

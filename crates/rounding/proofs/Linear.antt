@@ -1,4 +1,4 @@
--- Steps with exact numbers that the other files share: sums, multiples and products of numbers that are near. Assumes nothing.
+-- Steps with exact numbers: sums, multiples and products of numbers that are near. Assumes nothing.
 use mathlib.Core.Path.{_≡_, ap, ap₂}
 use mathlib.Core.Logic.{_⊎_, inl, inr}
 use Prim.Native.Nat.{ℕ, _+_, _-_, _*_, _≤_, _<_}
@@ -6,7 +6,7 @@ use native.Mathlib.Nat.{mul-assoc, mul-le-mul-left, mul-le-mul, le-of-mul-le-mul
 use native.Mathlib.Omega.{arith}
 use mathlib.Core.Bool.{Bool, true, false, not}
 use lib.Dec.{T, leb, leb→le, nleb→lt}
-use Rattle.rounding.specs.Exact.{D, Near, Size, Same, _⊞_, _⊟_, _⊠_, _⊙_}
+use Rattle.rounding.specs.Exact.{D, opposite, Near, Size, Same, _⊞_, _⊟_, _⊠_, _⊙_}
 
 -- two numbers differ by some e, one way or the other
 pub apart : (a b : ℕ) → (e : ℕ) × ((a ≡ b + e) ⊎ (b ≡ a + e))
@@ -40,11 +40,21 @@ near-sym a b e h = omega arith
 pub near-same : (a b a' b' : D) (e : ℕ) → Same a a' → Same b b' → Near a b e → Near a' b' e
 near-same a b a' b' e p q h = omega arith
 
+-- it is only their difference that counts
+pub near-as : (a b c d : D) (e : ℕ) → Same (a ⊟ b) (c ⊟ d) → Near a b e → Near c d e
+near-as a b c d e h k = omega arith
+
+pub near-sum : (a b c d : D) (e f : ℕ) → Near a b e → Near c d f → Near (a ⊞ c) (b ⊞ d) (e + f)
+near-sum a b c d e f h k = omega arith
+
+pub apart-size : (a b : D) (e : ℕ) → Near a b e → Size (a ⊟ b) e
+apart-size a b e h = omega arith
+
+pub size-opposite : (a : D) (e : ℕ) → Size a e → Size (opposite a) e
+size-opposite a e h = omega arith
+
 pub size-weaken : (a : D) (e f : ℕ) → Size a e → e ≤ f → Size a f
 size-weaken a e f h k = omega arith
-
-pub size-near : (a b : D) (e f : ℕ) → Near a b e → Size b f → Size a (f + e)
-size-near a b e f h k = omega arith
 
 pub size-sum : (a b : D) (e f : ℕ) → Size a e → Size b f → Size (a ⊞ b) (e + f)
 size-sum a b e f h k = omega arith
@@ -67,17 +77,43 @@ pub size-times : (k : ℕ) (a : D) (e : ℕ) → Size a e → Size (k ⊙ a) (k 
 size-times k a e h = omega (arith, mul-le-mul-left k (h .over), mul-le-mul-left k (h .under))
 
 pub size-divide : (k : ℕ) (a : D) (e : ℕ) → 0 < k → Size (k ⊙ a) (k * e) → Size a e
-size-divide k a e K h = record { over = le-of-mul-le-mul-left (spread k (a .p) (a .n) e (h .over)) K; under = le-of-mul-le-mul-left (spread k (a .n) (a .p) e (h .under)) K }
+size-divide k a e K h =
+    record {
+      over = le-of-mul-le-mul-left (spread k (a .p) (a .n) e (h .over)) K;
+      under = le-of-mul-le-mul-left (spread k (a .n) (a .p) e (h .under)) K;
+    }
   where
     spread : (k x y e : ℕ) → k * x ≤ k * y + k * e → k * x ≤ k * (y + e)
     spread k x y e h = omega arith
+
+-- |a - b| * k ≤ e bounds |a - b| alone
+pub near-cancel : (k : ℕ) (a b : D) (e : ℕ) → Near (k ⊙ a) (k ⊙ b) e → (f : ℕ) × Near a b f × (f * k ≤ e)
+near-cancel k a b e h =
+    let d = apart (a .p + b .n) (b .p + a .n) in
+    (d .0, near a b (d .0) (d .1), less (d .0) (d .1))
+  where
+    near : (a b : D) (f : ℕ) → (a .p + b .n ≡ b .p + a .n + f) ⊎ (b .p + a .n ≡ a .p + b .n + f) → Near a b f
+    near a b f (inl k) = omega arith
+    near a b f (inr k) = omega arith
+
+    less : (f : ℕ) → (a .p + b .n ≡ b .p + a .n + f) ⊎ (b .p + a .n ≡ a .p + b .n + f) → f * k ≤ e
+    less f (inl g) = omega (arith, ap (λ (z : ℕ). z * k) g, h .over)
+    less f (inr g) = omega (arith, ap (λ (z : ℕ). z * k) g, h .under)
 
 -- ---- products
 abbrev crossed : ℕ → ℕ → ℕ → ℕ → ℕ → Type 0
 crossed p n q m z = (p * q + n * m ≤ p * m + n * q + z) × (p * m + n * q ≤ p * q + n * m + z)
 
 cross-of : (p n q m c d e f : ℕ) → p ≡ n + c → q ≡ m + d → p ≤ n + e → q ≤ m + f → crossed p n q m (e * f)
-cross-of p n q m c d e f u w x y = omega (arith, ap (λ (z : ℕ). z * q) u, ap (λ (z : ℕ). z * m) u, ap (λ (z : ℕ). c * z) w, mul-le-mul (less p n c e u x) (less q m d f w y))
+cross-of p n q m c d e f u w x y =
+    omega (
+      arith,
+      ap (λ (z : ℕ). z * q) u,
+      ap (λ (z : ℕ). z * m) u,
+      ap (λ (z : ℕ). c * z) w,
+      mul-le-mul (less p n c e u x)
+          (less q m d f w y),
+    )
   where
     less : (x y z w : ℕ) → x ≡ y + z → x ≤ y + w → z ≤ w
     less x y z w p q = omega arith
@@ -85,21 +121,16 @@ cross-of p n q m c d e f u w x y = omega (arith, ap (λ (z : ℕ). z * q) u, ap 
 pub size-product : (a b : D) (e f : ℕ) → Size a e → Size b f → Size (a ⊠ b) (e * f)
 size-product a b e f h k = let r = apart (a .p) (a .n) in let s = apart (b .p) (b .n) in go (r .0) (s .0) (r .1) (s .1)
   where
-    go : (c d : ℕ) → (a .p ≡ a .n + c) ⊎ (a .n ≡ a .p + c) → (b .p ≡ b .n + d) ⊎ (b .n ≡ b .p + d) → Size (a ⊠ b) (e * f)
+    go : (c d : ℕ) → (a .p ≡ a .n + c) ⊎ (a .n ≡ a .p + c) → (b .p ≡ b .n + d) ⊎ (b .n ≡ b .p + d)
+        → Size (a ⊠ b) (e * f)
     go c d (inl u) (inl w) = omega (arith, cross-of (a .p) (a .n) (b .p) (b .n) c d e f u w (h .over) (k .over))
     go c d (inl u) (inr w) = omega (arith, cross-of (a .p) (a .n) (b .n) (b .p) c d e f u w (h .over) (k .under))
     go c d (inr u) (inl w) = omega (arith, cross-of (a .n) (a .p) (b .p) (b .n) c d e f u w (h .under) (k .over))
     go c d (inr u) (inr w) = omega (arith, cross-of (a .n) (a .p) (b .n) (b .p) c d e f u w (h .under) (k .under))
 
--- a * b - x * y is a * (b - y) + (a - x) * y
-pub near-product : (a b x y : D) (A B e f : ℕ) → Size a A → Size b B → Near a x e → Near b y f → Near (a ⊠ b) (x ⊠ y) (A * f + e * (B + f))
-near-product a b x y A B e f h k m n =
-    joined a b x y (A * f) (e * (B + f))
-    (size-product a (b ⊟ y) A f h (apart-size b y f n))
-    (size-product (a ⊟ x) y e (B + f) (apart-size a x e m) (size-near y b f B (near-sym b y f n) k))
+-- two numbers that are near, each times c
+pub product-near : (c a b : D) (M e : ℕ) → Size c M → Near a b e → Near (c ⊠ a) (c ⊠ b) (M * e)
+product-near c a b M e s n = apart c a b (M * e) (size-product c (a ⊟ b) M e s (apart-size a b e n))
   where
-    apart-size : (a b : D) (e : ℕ) → Near a b e → Size (a ⊟ b) e
-    apart-size a b e h = omega arith
-
-    joined : (a b x y : D) (u w : ℕ) → Size (a ⊠ (b ⊟ y)) u → Size ((a ⊟ x) ⊠ y) w → Near (a ⊠ b) (x ⊠ y) (u + w)
-    joined a b x y u w h k = omega arith
+    apart : (c a b : D) (e : ℕ) → Size (c ⊠ (a ⊟ b)) e → Near (c ⊠ a) (c ⊠ b) e
+    apart c a b e h = omega arith

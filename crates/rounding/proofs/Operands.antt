@@ -1,4 +1,5 @@
--- A finite result has finite operands, but for a divisor, which may be an infinity where the quotient is 0. Assumes nothing.
+-- A finite result has finite operands. Assumes nothing.
+-- But for a divisor: it may be an infinity where the quotient is 0.
 use mathlib.Core.Path.{_≡_, refl, sym, ap, _∙_, subst}
 use mathlib.Core.Logic.{_⊎_, inl, inr}
 use Prim.Native.Nat.{ℕ, zero, suc, _*_, _/_, _<_}
@@ -65,21 +66,26 @@ mag-above : (s : Bool) (m : ℕ) (e : ℤ) → T (fits binary64 (fin s (suc m) e
 mag-above s m e h = go (mag (fin s (suc m) e)) (mag-exact s (suc m) e h)
   where
     go : (k : ℕ) → k * down e ≡ suc m * up e * unit → 0 < k
-    go zero p = absurd (lt-irrefl 0 (subst (λ (z : ℕ). 0 < z) (sym p ∙ zero-mul (down e)) (mul-pos (mul-pos (zero-lt-suc m) (up-pos e)) unit-pos)))
+    go zero p =
+        absurd
+        (lt-irrefl 0
+        (subst (λ (z : ℕ). 0 < z) (sym p ∙ zero-mul (down e)) (mul-pos (mul-pos (zero-lt-suc m) (up-pos e)) unit-pos)))
     go (suc k) p = zero-lt-suc k
 
 pub zero-out : (s t : Bool) (m : ℕ) (e d : ℤ) → Finite (div binary64 (fin s m e) (fin t 0 d)) → ⊥
 unfolding div
 zero-out s t m e d g = neither (eqb m 0) nan (inf (unlike s t)) (λ z. z) (λ z. z) g
 
-pub div-divisor : (x y : Float) → T (fits binary64 y) → Finite (div binary64 x y) → (Finite y × (0 < mag y)) ⊎ (((t : Bool) × (y ≡ inf t)) × (mag (div binary64 x y) ≡ 0))
+pub div-divisor : (x y : Float) → T (fits binary64 y) → Finite (div binary64 x y)
+    → (Finite y × (0 < mag y)) ⊎ (((t : Bool) × (y ≡ inf t)) × (mag (div binary64 x y) ≡ 0))
 unfolding div
 div-divisor nan y f h = absurd h
 div-divisor (inf s) nan f h = absurd h
 div-divisor (inf s) (inf t) f h = absurd h
 div-divisor (inf s) (fin t n d) f h = absurd h
 div-divisor (fin s m e) nan f h = absurd h
-div-divisor (fin s m e) (inf t) f h = inr ((t, refl), unfold mag in (ap (λ (z : ℕ). z / 1) (zero-mul unit) ∙ zero-div 1))
+div-divisor (fin s m e) (inf t) f h =
+    inr ((t, refl), unfold mag in (ap (λ (z : ℕ). z / 1) (zero-mul unit) ∙ zero-div 1))
 div-divisor (fin s m e) (fin t zero d) f h = absurd (zero-out s t m e d h)
 div-divisor (fin s m e) (fin t (suc n) d) f h = inl (tt, mag-above t n d f)
 

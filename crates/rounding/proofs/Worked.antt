@@ -1,4 +1,5 @@
--- A move that document 01 works through, by the exact motion: times 1 0 1 0 1 0 1 from rest at 0, jerks 1 0 -1 0 -1 0 1, end at rest at 2, after 4 seconds. Assumes nothing.
+-- A move that document 01 works through, by the exact motion. Assumes nothing.
+-- Times 1 0 1 0 1 0 1 from rest at 0, jerks 1 0 -1 0 -1 0 1, end at rest at 2, after 4 seconds.
 use mathlib.Core.Path.{refl}
 use mathlib.Core.List.{[], _∷_}
 use Prim.Native.Nat.{ℕ, _*_}
@@ -24,6 +25,7 @@ jerks i = getD (one ∷ zero ∷ neg one ∷ zero ∷ neg one ∷ zero ∷ one �
 abbrev end : Moving
 end = motion times jerks (state zero zero zero) 7
 
-pub ends : Same (end .p) (signed false (2 * (perP * unit))) × Same (end .v) nought × Same (end .a) nought × Same (lasts times 7) (signed false (4 * unit))
+pub ends : Same (end .p) (signed false (2 * (perP * unit))) × Same (end .v) nought × Same (end .a) nought
+    × Same (lasts times 7) (signed false (4 * unit))
 unfolding ofBits neg unit val sign mag motion lasts
 ends = (refl, refl, refl, refl)

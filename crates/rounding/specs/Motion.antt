@@ -1,6 +1,7 @@
 -- The seven-phase motion without rounding, in whole numbers. Definitions only.
--- Document 01: phase i, with T = t[i] and J = j[i], adds T v + T² a / 2 + T³ J / 6 to p, then T a + T² J / 2 to v, then T J to a, in that order.
--- With U = 2 ^ 1074 every f64 is a whole number of 1 / U. So a state is kept as three whole numbers, in the same units throughout:
+-- Document 01: phase i, with T = t[i] and J = j[i], adds T v + T² a / 2 + T³ J / 6 to p, then T a + T² J / 2 to v,
+-- then T J to a, in that order.
+-- With U = 2 ^ 1074 every f64 is a whole number of 1 / U. So a state is kept as three whole numbers, in the same units:
 --   the acceleration a as U² a, the velocity v as 2 U³ v, the position p as 6 U⁴ p.
 -- With t = U T and j = U J the phase adds, in these units,
 --   6 U⁴ (T v + T² a / 2 + T³ J / 6) = 3 t (2 U³ v) + 3 t² (U² a) + t³ j   to the position,
@@ -45,7 +46,8 @@ unfoldable pub motion : (ℕ → Float) → (ℕ → Float) → Moving → ℕ �
 motion t j s zero = s
 motion t j s (suc i) = phase (val (t i)) (val (j i)) (motion t j s i)
 
--- the time that the first i phases take: the exact sum, and the sum of the sizes, which is the same where no time is negative
+-- the time that the first i phases take: the exact sum, and the sum of the sizes, which is the same where no time is
+-- negative
 unfoldable pub lasts : (ℕ → Float) → ℕ → D
 lasts t zero = nought
 lasts t (suc i) = lasts t i ⊞ val (t i)

@@ -1,9 +1,10 @@
--- A finite f64 as a whole number of units of 2 ^ -1074, the smallest positive f64: every finite f64 is one. Definitions only.
--- `val x` is the number x times 2 ^ 1074, and `mag x` its size. A NaN and an infinity are given 0, so a law that speaks of `val` asks that its floats are finite.
+-- A finite f64 as a whole number of units of 2 ^ -1074, the smallest positive f64. Definitions only.
+-- Every finite f64 is one. `val x` is the number x times 2 ^ 1074, and `mag x` its size. A NaN and an infinity are
+-- given 0, so a law that speaks of `val` asks that its floats are finite.
 use Prim.Native.Nat.{ℕ, _*_, _/_, _^_}
 use mathlib.Core.Bool.{Bool, false}
 use lib.Dec.{T}
-use lib.Ieee.{Float, nan, inf, fin, up, down}
+use lib.Ieee.{Float, nan, inf, fin, binary64, up, down, fits}
 use lib.Ieee.Scale.{finite}
 use Rattle.rounding.specs.Exact.{D, signed}
 
@@ -28,3 +29,8 @@ val x = signed (sign x) (mag x)
 -- neither a NaN nor an infinity
 abbrev pub Finite : Float → Type 0
 Finite x = T (finite x)
+
+-- a finite f64
+pub record Number (x : Float) : Type 0 where
+  pub held : T (fits binary64 x)
+  pub finite : Finite x

@@ -17,11 +17,10 @@ use Rattle.step2_solver.specs.TimeAcc0Acc1.{acc0Acc1RestApplies, acc0Acc1RestTi
 use Rattle.step2_solver.specs.TimeAcc0.{acc0FirstTimes, acc0SecondTimes, acc0ThirdTimes}
 use Rattle.step2_solver_quartic.specs.TimeAcc1Vel.{acc1VelUdduTimes, acc1VelUdudTimes}
 use Rattle.step2_solver_quartic.specs.TimeAcc0Vel.{acc0VelUdduTimes, acc0VelUdudTimes}
-use Rattle.step2_times.specs.Facts.{Number as FiniteNumber, Numbers as SixNumbers}
+use Rattle.step2_times.specs.Facts.{Numbers as SixNumbers}
 use Rattle.step2_times.proofs.Facts.{acc0-acc1-vel-uddu, acc0-acc1-vel-udud, acc1-vel-uddu, acc1-vel-udud}
 use Rattle.step2_times.proofs.Facts.{acc0-vel-uddu, acc0-vel-udud, acc0-acc1-rest, acc0-acc1-uddu, acc0-first}
 use Rattle.step2_times.proofs.Facts.{acc0-second, acc0-third}
-use Rattle.profile_arrives.specs.Reply.{Number}
 use Rattle.step2_arrives.specs.Moves.{Numbers}
 use Rattle.step2_arrives.proofs.Made.{TimesFit, Timed, replacing, leaving}
 
@@ -75,9 +74,6 @@ module _ (s : PositionThirdOrderStep2) (a-max a-min j-max : Float) where
   acc0-third-fit h0a h1 h2 = search (add-fits, sub-fits, div-fits, ofBits-fits)
 
 -- ---- the times are known: how long they last, and what the label's 0 for a[3] is off by
-number : {x : Float} → Number x → FiniteNumber x
-number h = record { held = h .0; finite = h .1 }
-
 module _ {m : Move} (n : Numbers m) where
   abbrev s : PositionThirdOrderStep2
   s = solverOf m
@@ -94,12 +90,12 @@ module _ {m : Move} (n : Numbers m) where
   numbers : SixNumbers (m .tf) (m .a0) (m .af) a-max a-min j-max
   numbers =
       record {
-        of-tf = number (n .of-tf);
-        of-a0 = number (n .of-a0);
-        of-af = number (n .of-af);
-        of-a-max = number (n .of-a-max);
-        of-a-min = number (n .of-a-min);
-        of-j-max = number (n .of-j-max);
+        of-tf = n .of-tf;
+        of-a0 = n .of-a0;
+        of-af = n .of-af;
+        of-a-max = n .of-a-max;
+        of-a-min = n .of-a-min;
+        of-j-max = n .of-j-max;
       }
 
   -- `time_acc0_acc1_vel`

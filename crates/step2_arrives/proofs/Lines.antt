@@ -32,12 +32,12 @@ fresh-starts {m} n =
             eight-p = refl;
             held-t =
                 by-seven (λ (i : ℕ). T (fits binary64 (time (fresh m) i))) none none none none none none none;
-            held-a = n .of-a0 .0;
-            held-v = n .of-v0 .0;
-            held-p = n .of-p0 .0;
-            held-pf = n .of-pf .0;
-            held-vf = n .of-vf .0;
-            held-af = n .of-af .0;
+            held-a = n .of-a0 .held;
+            held-v = n .of-v0 .held;
+            held-p = n .of-p0 .held;
+            held-pf = n .of-pf .held;
+            held-vf = n .of-vf .held;
+            held-af = n .of-af .held;
           };
     }
 

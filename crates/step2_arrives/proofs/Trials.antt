@@ -60,7 +60,7 @@ module _ {m : Move} (n : Numbers m) where
       let h1 = acc0Acc1VelUdduH1 s a-max a-min j-max in
       let t1 = acc0Acc1VelUdduT1 s a-max a-min j-max h1 in
       known-cond (acc0Acc1VelUdduApplies s a-max a-min j-max)
-      (λ z. known (acc0-acc1-vel-uddu-timed n h1 t1 (unfold acc0Acc1VelUdduT1 in search (div-fits))) (n .of-j-max .0))
+      (λ z. known (acc0-acc1-vel-uddu-timed n h1 t1 (unfold acc0Acc1VelUdduT1 in search (div-fits))) (n .of-j-max .held))
       (λ z. none-known)
 
   pub acc0-acc1-vel-udud-known : Known m (acc0Acc1VelUdud s l)
@@ -73,7 +73,7 @@ module _ {m : Move} (n : Numbers m) where
       known
       (acc0-acc1-vel-udud-timed n t1 t3 (unfold acc0Acc1VelUdudT1 in search (div-fits))
       (unfold acc0Acc1VelUdudT3 in search (add-fits)))
-      (n .of-j-max .0))
+      (n .of-j-max .held))
       (λ z. none-known)
 
   module _ (w : Window) (root : Float) (f : Fits64 root) where
@@ -88,14 +88,14 @@ module _ {m : Move} (n : Numbers m) where
         known
         (acc1-vel-uddu-timed n t h1 (unfold acc1VelUdduNewton in search (cond-fits, sub-fits))
         (unfold acc1VelUdduH1 in search (div-fits)))
-        (n .of-j-max .0))
+        (n .of-j-max .held))
 
     pub acc1-vel-udud-known : Known m (acc1VelUdud s l w root)
     unfolding acc1VelUdud
     acc1-vel-udud-known =
         let h1 = acc1VelUdudH1 s a-max j-max root in
         known-cond (outsideOf w root) (λ z. none-known)
-        (λ z. known (acc1-vel-udud-timed n root h1 f (unfold acc1VelUdudH1 in search (div-fits))) (n .of-j-max .0))
+        (λ z. known (acc1-vel-udud-timed n root h1 f (unfold acc1VelUdudH1 in search (div-fits))) (n .of-j-max .held))
 
     -- ---- `time_acc0_vel`
     pub acc0-vel-uddu-known : Known m (acc0VelUddu s l w root)
@@ -108,7 +108,7 @@ module _ {m : Move} (n : Numbers m) where
         known
         (acc0-vel-uddu-timed n t h1 (unfold acc0VelUdduNewton in search (cond-fits, sub-fits))
         (unfold acc0VelUdduH1 in search (div-fits)))
-        (n .of-j-max .0))
+        (n .of-j-max .held))
 
     pub acc0-vel-udud-known : Known m (acc0VelUdud s l w root)
     unfolding acc0VelUdud
@@ -120,7 +120,7 @@ module _ {m : Move} (n : Numbers m) where
         known
         (acc0-vel-udud-timed n t h1 (unfold acc0VelUdudNewton in search (sub-fits))
         (unfold acc0VelUdudH1 in search (div-fits)))
-        (n .of-j-max .0))
+        (n .of-j-max .held))
 
   -- ---- `time_acc0_acc1`: the rest formula with any t[1] that is an f64
   module _ (jf t1 : Float) (f : Fits64 jf) (g : Fits64 t1) (z : T (acc0Acc1RestApplies s)) where
@@ -155,7 +155,7 @@ module _ {m : Move} (n : Numbers m) where
   unfolding acc0First
   acc0-first-known =
       let h1 = acc0FirstH1 s a-max j-max in
-      known (acc0-first-timed n h1 (unfold acc0FirstH1 in search (sqrtOf-fits, add-fits))) (n .of-j-max .0)
+      known (acc0-first-timed n h1 (unfold acc0FirstH1 in search (sqrtOf-fits, add-fits))) (n .of-j-max .held)
 
   pub acc0-second-known : Known m (acc0Second s l)
   unfolding acc0Second
@@ -164,7 +164,7 @@ module _ {m : Move} (n : Numbers m) where
       let h0 = acc0SecondH0 j-max h0a (acc0SecondH0b s a-max j-max) in
       let h1 = acc0SecondH1 j-max h0a in
       let t1 = acc0SecondT1 s a-max j-max h1 in
-      known (acc0-second-timed n h0 h1 t1 (unfold acc0SecondT1 in search (div-fits))) (n .of-j-max .0)
+      known (acc0-second-timed n h0 h1 t1 (unfold acc0SecondT1 in search (div-fits))) (n .of-j-max .held)
 
   pub acc0-third-known : Known m (acc0Third s l)
   unfolding acc0Third
@@ -173,4 +173,4 @@ module _ {m : Move} (n : Numbers m) where
       let h0b = acc0ThirdH0b s a-max j-max in
       let h1 = acc0ThirdH1 j-max h0a h0b in
       let h2 = acc0ThirdH2 j-max h0b in
-      known (acc0-third-timed n h0a h1 h2) (n .of-j-max .0)
+      known (acc0-third-timed n h0a h1 h2) (n .of-j-max .held)

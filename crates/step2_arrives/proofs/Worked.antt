@@ -85,20 +85,20 @@ met = (
         (record { over = lit≤ tt; under = lit≤ tt });
   },
   record {
-    of-tf = (tt, tt);
-    of-p0 = (tt, tt);
-    of-v0 = (tt, tt);
-    of-a0 = (tt, tt);
-    of-pf = (tt, tt);
-    of-vf = (tt, tt);
-    of-af = (tt, tt);
-    of-v-max = (tt, tt);
-    of-v-min = (tt, tt);
-    of-a-max = (tt, tt);
-    of-a-min = (tt, tt);
-    of-j-max = (tt, tt);
+    of-tf = record { held = tt; finite = tt };
+    of-p0 = record { held = tt; finite = tt };
+    of-v0 = record { held = tt; finite = tt };
+    of-a0 = record { held = tt; finite = tt };
+    of-pf = record { held = tt; finite = tt };
+    of-vf = record { held = tt; finite = tt };
+    of-af = record { held = tt; finite = tt };
+    of-v-max = record { held = tt; finite = tt };
+    of-v-min = record { held = tt; finite = tt };
+    of-a-max = record { held = tt; finite = tt };
+    of-a-min = record { held = tt; finite = tt };
+    of-j-max = record { held = tt; finite = tt };
   },
 )
 
 pub move-arrives : Demand3 move left
-move-arrives = line-arrives Acc0Acc1Vel none none (met .2 .of-p0 .0) (met .2 .of-p0 .0) (met .2) (met .0) (met .1)
+move-arrives = line-arrives Acc0Acc1Vel none none (met .2 .of-p0 .held) (met .2 .of-p0 .held) (met .2) (met .0) (met .1)

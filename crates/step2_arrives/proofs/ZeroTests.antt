@@ -10,7 +10,6 @@ use native.Mathlib.Nat.{le-refl, eq-or-lt-of-le}
 use native.Mathlib.Omega.{arith}
 use lib.ListN.{getD}
 use lib.Ieee.{Float, nan}
-use Rattle.util.specs.Integrate.{integrateOf}
 use Rattle.labels.specs.declared.ReachedLimits.{ReachedLimits}
 use Rattle.labels.specs.declared.ControlSigns.{ControlSigns}
 use Rattle.labels.specs.declared.tests.Tests.{Tests}
@@ -26,7 +25,7 @@ use Rattle.phases.specs.Phase.{Nodes, replacedOf, zeroInsideOf, nodeOf, phaseOf
 use Rattle.labels.specs.Labels.{labels}
 use Rattle.profile.specs.Parts.{profileOf, nodesOf, goalOf, labelsOf}
 use Rattle.profile.specs.Check.{arrivedOf, keptOf, checkOf}
-use Rattle.rounding.specs.Step.{Node, nextA, nextV, nextP}
+use Rattle.rounding.specs.Step.{Node, stepOf}
 use Rattle.profile_arrives.specs.Reply.{jerk, node, Held}
 use Rattle.profile_arrives.proofs.Steps.{never, later, first, rest, at, stored, stays}
 use Rattle.profile_arrives.proofs.Yes.{Yes, check-yes}
@@ -56,18 +55,15 @@ module _ (f : ℕ → Nodes → Step Nodes) (g : ℕ → Node → Node) (test : 
 module _ (m : Tests) (a-max a-min : Float) (b : Band) (t j : List Float) where
   abbrev next : ℕ → Node → Node
   next i s =
-      record {
-        a = replacedOf m false a-max a-min i (nextA (getD t i nan) (s .a) (getD j i nan));
-        v = nextV (getD t i nan) (s .v) (s .a) (getD j i nan);
-        p = nextP (getD t i nan) (s .p) (s .v) (s .a) (getD j i nan);
-      }
+      let w = stepOf (getD t i nan) (getD j i nan) s in
+      record { a = replacedOf m false a-max a-min i (w .a); v = w .v; p = w .p }
 
   abbrev inside : ℕ → Node → Bool
   inside i s = zeroInsideOf i (s .v) (s .a) (next i s .a) (getD j i nan) b
 
   phases-tested : (n : Nodes) → run (phaseOf m false a-max a-min b t j) 7 0 n .ok ≡ true → (i : ℕ) → i < 7
       → inside i (at (run (phaseOf m false a-max a-min b t j) 7 0 n .left) i) ≡ true
-  unfolding phaseOf nodeOf integrateOf
+  unfolding phaseOf nodeOf
   phases-tested n h i l =
       tested (phaseOf m false a-max a-min b t j) next inside (λ i n. refl) (λ i n. refl) 7 0 n h i zero-le l
 

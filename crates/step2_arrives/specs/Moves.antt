@@ -7,10 +7,10 @@ use Rattle.profile.specs.declared.Profile.{Profile}
 use Rattle.profile.specs.declared.Checked.{Checked}
 use Rattle.profile.specs.Boundary.{defaultOf, boundaryOf}
 use Rattle.rounding.specs.Exact.{D, Near, _⊙_}
-use Rattle.rounding.specs.Value.{unit, val}
+use Rattle.rounding.specs.Value.{unit, val, Number}
 use Rattle.rounding.specs.Motion.{lasts}
 use Rattle.rounding.specs.Step.{Node}
-use Rattle.profile_arrives.specs.Reply.{time, node, Held, Number}
+use Rattle.profile_arrives.specs.Reply.{time, node, Held}
 use Rattle.profile_arrives.specs.Arrives.{Fraction, _over_, Distances, Arrives, demanded, proved}
 use Rattle.roots.specs.declared.RootAnswer.{RootAnswer}
 use Rattle.step2_solver.specs.declared.Move.{Move}

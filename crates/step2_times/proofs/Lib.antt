@@ -1,4 +1,5 @@
-pub mod Scale
+-- The times of the eleven attempts: how long they last, and what the replaced acceleration is off; `Facts` says it all.
+pub mod Turned
 pub mod Within
 pub mod Less
 pub mod Quotients

@@ -1,28 +1,32 @@
--- Seven accepted times: each is 8 at most, and an error of their sum is an error of how long the motion lasts. Assumes nothing.
+-- Seven accepted times: each is 8 at most, and an error of their sum is one of the duration. Assumes nothing.
 use mathlib.Core.Path.{_≡_, refl, sym, subst}
 use Prim.Native.Nat.{ℕ, _+_, _*_, _≤_, _<_}
-use native.Mathlib.Nat.{le-trans, mul-le-mul-right}
 use native.Mathlib.Omega.{arith}
-use lib.Dec.{T, leb, leb→le, lit≤}
+use lib.Dec.{T, leb, lit≤}
 use lib.Ieee.{Float, binary64, neg, sub, fits}
 use lib.Ieee.Fits.{add-fits}
 use Rattle.float.specs.Ops.{_⊕_, _⊖_, _⊗_, #0, #2}
-use Rattle.rounding.specs.Exact.{D, nought, Near, Size, Same, _⊞_, _⊟_, _⊙_}
+use Rattle.rounding.specs.Exact.{D, nought, Same, _⊞_, _⊟_, _⊙_}
 use Rattle.rounding.specs.Value.{unit, mag, val, Finite}
+use Rattle.rounding.specs.Bounds.{Off, Sized, On}
 use Rattle.rounding.specs.Motion.{lasts, elapsed}
 use Rattle.rounding.proofs.Linear.{size-weaken}
 use Rattle.rounding.proofs.Compare.{val-size}
 use Rattle.rounding.proofs.Operands.{add-finite, neg-finite}
 use Rattle.rounding.proofs.Literals.{val-0}
+use Rattle.rounding.proofs.Errors.{off-as, off-within}
+use Rattle.rounding.proofs.Sizes.{about, about-off, sized}
+use Rattle.rounding.proofs.Negations.{about-neg, sized-neg}
+use Rattle.rounding.proofs.Sums.{sum-back, on-sum, left-sized, right-sized}
+use Rattle.rounding.proofs.Products.{on-twice}
 use Rattle.step2_solver.specs.declared.Times.{Times}
 use Rattle.step2_times.specs.Facts.{Accepted, Lasts, roundings}
-use Rattle.step2_times.proofs.Scale.{Sized, Off, On, about, about-neg, on, on-sum, on-twice, sized, sized-neg, left-sized, right-sized, off-same}
 
 -- the exact sum of seven numbers
 abbrev pub sum : (a b c d e f g : D) → D
 sum a b c d e f g = a ⊞ b ⊞ c ⊞ d ⊞ e ⊞ f ⊞ g
 
-abbrev pub sumOf : Times → D
+abbrev sumOf : Times → D
 sumOf x = sum (val (x .t0)) (val (x .t1)) (val (x .t2)) (val (x .t3)) (val (x .t4)) (val (x .t5)) (val (x .t6))
 
 -- each time is 8 at most
@@ -36,15 +40,24 @@ pub record Within (x : Times) : Type 0 where
   pub t6 : Sized unit (x .t6) 8
 
 module _ {t : ℕ → Float} {x : Times} (a : Accepted t x) where
-  sums : (a b c d e f g U : ℕ) → 0 + a + b + c + d + e + f + g ≤ 8 * U → (a ≤ 8 * U) × (b ≤ 8 * U) × (c ≤ 8 * U) × (d ≤ 8 * U) × (e ≤ 8 * U) × (f ≤ 8 * U) × (g ≤ 8 * U)
+  sums : (a b c d e f g U : ℕ) → 0 + a + b + c + d + e + f + g ≤ 8 * U
+      → (a ≤ 8 * U) × (b ≤ 8 * U) × (c ≤ 8 * U) × (d ≤ 8 * U) × (e ≤ 8 * U) × (f ≤ 8 * U) × (g ≤ 8 * U)
   sums a b c d e f g U h = omega arith
 
-  each : (mag (t 0) ≤ 8 * unit) × (mag (t 1) ≤ 8 * unit) × (mag (t 2) ≤ 8 * unit) × (mag (t 3) ≤ 8 * unit) × (mag (t 4) ≤ 8 * unit) × (mag (t 5) ≤ 8 * unit) × (mag (t 6) ≤ 8 * unit)
+  each : (mag (t 0) ≤ 8 * unit) × (mag (t 1) ≤ 8 * unit) × (mag (t 2) ≤ 8 * unit) × (mag (t 3) ≤ 8 * unit)
+      × (mag (t 4) ≤ 8 * unit) × (mag (t 5) ≤ 8 * unit) × (mag (t 6) ≤ 8 * unit)
   unfolding elapsed
   each = sums (mag (t 0)) (mag (t 1)) (mag (t 2)) (mag (t 3)) (mag (t 4)) (mag (t 5)) (mag (t 6)) unit (a .total)
 
   one : (i : ℕ) (y : Float) → t i ≡ y → i < 7 → mag (t i) ≤ 8 * unit → Sized unit y 8
-  one i y e l h = subst (λ (z : Float). Sized unit z 8) e (record { held = a .held i l; finite = a .finite i l; size = size-weaken (val (t i)) (mag (t i)) (8 * unit) (val-size (t i)) h })
+  one i y e l h =
+      subst (λ (z : Float). Sized unit z 8) e
+      (record {
+        held = a .held i l;
+        finite = a .finite i l;
+        size = size-weaken (val (t i)) (mag (t i)) (8 * unit)
+            (val-size (t i)) h;
+      })
 
   pub within : Within x
   within =
@@ -60,40 +73,61 @@ module _ {t : ℕ → Float} {x : Times} (a : Accepted t x) where
 
   lasts-sum : Same (lasts t 7) (sumOf x)
   unfolding lasts
-  lasts-sum = rw (← a .is0, ← a .is1, ← a .is2, ← a .is3, ← a .is4, ← a .is5, ← a .is6) (from-none (val (t 0)) (val (t 1)) (val (t 2)) (val (t 3)) (val (t 4)) (val (t 5)) (val (t 6)))
+  lasts-sum =
+      rw (← a .is0, ← a .is1, ← a .is2, ← a .is3, ← a .is4, ← a .is5, ← a .is6)
+      (from-none (val (t 0)) (val (t 1)) (val (t 2)) (val (t 3)) (val (t 4)) (val (t 5)) (val (t 6)))
     where
       from-none : (a b c d e f g : D) → Same (nought ⊞ a ⊞ b ⊞ c ⊞ d ⊞ e ⊞ f ⊞ g) (sum a b c d e f g)
       from-none a b c d e f g = omega arith
 
-  -- z is what the attempt's roundings come to, and the identity says that it is the sum less tf
-  pub lasts-of : {tf : Float} {z : D} {β : ℕ} → Off unit z β → Same z (sumOf x ⊟ val tf) → T (leb β roundings) → Lasts t tf
-  lasts-of {tf} {z} {β} o e h = record { err = o .err; near = apart-near (lasts t 7) (sumOf x) z (val tf) (o .err) lasts-sum e (o .size); bound = le-trans (o .bound) (mul-le-mul-right unit (leb→le β roundings h)) }
+  -- what the attempt's roundings come to is the sum less tf
+  pub lasts-of : {tf : Float} {y z : D} {β : ℕ} → Off unit y z β → Same (y ⊟ z) (sumOf x ⊟ val tf) → T (leb β roundings)
+      → Lasts t tf
+  lasts-of {tf} {y} {z} o e h =
+      let w = off-within roundings (off-as (lasts t 7) (val tf) o (ends (lasts t 7) (sumOf x) y z (val tf) lasts-sum e))
+      h in
+      record { err = w .err; near = w .near; bound = w .bound }
     where
-      apart-near : (l s z f : D) (e : ℕ) → Same l s → Same z (s ⊟ f) → Size z e → Near l f e
-      apart-near l s z f e h k m = omega arith
+      ends : (l s y z f : D) → Same l s → Same (y ⊟ z) (s ⊟ f) → Same (y ⊟ z) (l ⊟ f)
+      ends l s y z f h k = omega arith
 
 pub zero-none : Same (val #0) nought
 zero-none = subst (λ (z : D). Same z nought) (sym val-0) refl
 
 -- ---- a time that is tf less the sum w of the others
-pub less : {w : Float} {R : ℕ} {X : D} {β : ℕ} (tf : Float) → T (fits binary64 tf) → On unit w R X β → Sized unit (tf ⊖ w) 8 → Off unit (val (tf ⊖ w) ⊟ (val tf ⊟ X)) (8 + (0 + β))
+pub less : {w : Float} {R : ℕ} {X : D} {β : ℕ} (tf : Float) → T (fits binary64 tf) → On unit w R 1 X β
+    → Sized unit (tf ⊖ w) 8
+    → Off unit (val (tf ⊖ w)) (val tf ⊟ X) (8 + (0 + β))
 unfolding sub
-less tf f o z = on-sum (about unit tf f) (about-neg (o .about)) z .about .off (z .finite)
+less tf f o z = about-off (on-sum (about unit tf f) (about-neg (o .about)) z .about) (z .finite)
 
 -- a time that is a sum of another time and y, in either order: how large y is, and the sum's error
-pub more : (t y : Float) → T (fits binary64 y) → Sized unit t 8 → Sized unit (t ⊕ y) 8 → Sized unit y 17 × Off unit (val (t ⊕ y) ⊟ (val t ⊞ val y)) 8
-more t y f z w = let q = right-sized t y f w z tt in (q, on-sum (on z .about) (on q .about) w .about .off (w .finite))
+pub more : (t y : Float) → T (fits binary64 y) → Sized unit t 8 → Sized unit (t ⊕ y) 8
+    → Sized unit y 17 × Off unit (val (t ⊕ y)) (val t ⊞ val y) 8
+more t y f z w = (right-sized t y f w z tt, sum-back t y (z .held) f w)
 
-pub more' : (y t : Float) → T (fits binary64 y) → Sized unit t 8 → Sized unit (y ⊕ t) 8 → Sized unit y 17 × Off unit (val (y ⊕ t) ⊟ (val t ⊞ val y)) 8
-more' y t f z w = let q = left-sized y t f w z tt in (q, off-same (val (y ⊕ t) ⊟ (val t ⊞ val y)) (on-sum (on q .about) (on z .about) w .about .off (w .finite)) (swapped (val (y ⊕ t)) (val y) (val t)))
+pub more' : (y t : Float) → T (fits binary64 y) → Sized unit t 8 → Sized unit (y ⊕ t) 8
+    → Sized unit y 17 × Off unit (val (y ⊕ t)) (val t ⊞ val y) 8
+more' y t f z w = (
+  left-sized y t f w z tt,
+  off-as (val (y ⊕ t)) (val t ⊞ val y) (sum-back y t f (z .held) w)
+      (swapped (val (y ⊕ t)) (val y) (val t)),
+)
   where
     swapped : (s y t : D) → Same (s ⊟ (y ⊞ t)) (s ⊟ (t ⊞ y))
     swapped s y t = omega arith
 
 -- a time that is tf + y less twice another time
-pub twice-less : (tf y t : Float) → T (fits binary64 tf) → T (fits binary64 y) → Sized unit t 8 → Sized unit (tf ⊕ y ⊖ #2 ⊗ t) 8 → Finite y × Off unit (val (tf ⊕ y ⊖ #2 ⊗ t) ⊟ (val tf ⊞ val y ⊟ 2 ⊙ val t)) 51
+pub twice-less : (tf y t : Float) → T (fits binary64 tf) → T (fits binary64 y) → Sized unit t 8
+    → Sized unit (tf ⊕ y ⊖ #2 ⊗ t) 8
+    → Finite y × Off unit (val (tf ⊕ y ⊖ #2 ⊗ t)) (val tf ⊞ val y ⊟ 2 ⊙ val t) 51
 unfolding sub
 twice-less tf y t f g z w =
     let two = on-twice z tt in
-    let d = left-sized (tf ⊕ y) (neg (#2 ⊗ t)) (add-fits binary64 tf y) w (sized-neg (sized two (neg-finite (#2 ⊗ t) (add-finite (tf ⊕ y) (neg (#2 ⊗ t)) (w .finite) .1)))) tt in
-    (add-finite tf y (d .finite) .1, on-sum (on-sum (about unit tf f) (about unit y g) d .about) (about-neg (two .about)) w .about .off (w .finite))
+    let k = add-finite (tf ⊕ y) (neg (#2 ⊗ t)) (w .finite) in
+    let d = left-sized (tf ⊕ y) (neg (#2 ⊗ t)) (add-fits binary64 tf y) w
+    (sized-neg (sized two (neg-finite (#2 ⊗ t) (k .1)))) tt in (
+      add-finite tf y (d .finite) .1,
+      about-off (on-sum (on-sum (about unit tf f) (about unit y g) d .about) (about-neg (two .about)) w .about)
+          (w .finite),
+    )

@@ -1,6 +1,7 @@
--- The premises can be met: document 01's move of kind 01, with tf 7, limits ±1 of acceleration and jerk 1, has seven times of 1 by the first attempt's formulas. Assumes nothing.
+-- The premises can be met. Assumes nothing.
+-- Document 01's move of kind 01, with tf 7, limits ±1 of acceleration and jerk 1, has seven times of 1 by the first
+-- attempt's formulas.
 use mathlib.Core.Path.{refl}
-use Prim.Native.Nat.{ℕ}
 use lib.Dec.{lit≤}
 use lib.Ieee.{Float, binary64, ofBits, neg, add, sub, mul, div, fits}
 use Rattle.float.specs.Ops.{#0, #1, #4, #8}

@@ -1,4 +1,5 @@
--- What is said of the seven times of an attempt: how long the exact motion lasts, and how far the acceleration that `check` replaced by 0 is from 0. Definitions only.
+-- What is said of the seven times of an attempt. Definitions only.
+-- How long the exact motion lasts, and how far the acceleration that `check` replaced by 0 is from 0.
 use mathlib.Core.Path.{_≡_}
 use mathlib.Core.Bool.{cond}
 use Prim.Native.Nat.{ℕ, _*_, _^_, _≤_, _<_}
@@ -6,15 +7,10 @@ use lib.Dec.{T}
 use lib.Ieee.{Float, binary64, fits, lt, neg}
 use Rattle.float.specs.Ops.{#0}
 use Rattle.rounding.specs.Exact.{nought, Near, Size, Below}
-use Rattle.rounding.specs.Value.{unit, val, Finite}
+use Rattle.rounding.specs.Value.{unit, val, Finite, Number}
 use Rattle.rounding.specs.Motion.{state, motion, lasts, elapsed}
 use Rattle.rounding.specs.Step.{Replaced}
 use Rattle.step2_solver.specs.declared.Times.{Times}
-
--- x is a finite f64
-pub record Number (x : Float) : Type 0 where
-  pub held : T (fits binary64 x)
-  pub finite : Finite x
 
 -- the numbers of a line that the time formulas name themselves: finite, as its sixth question asks
 pub record Numbers (tf a0 af a-max a-min j-max : Float) : Type 0 where
@@ -49,14 +45,15 @@ pub record Lasts (t : ℕ → Float) (tf : Float) : Type 0 where
   pub bound : err * 2 ^ 53 ≤ roundings * unit
 
 -- the jerk of a phase of the time t: x where t is above 0, else 0
-abbrev pub jerk : Float → Float → Float
-jerk t x = cond (lt #0 t) x #0
+abbrev pub jerkIn : Float → Float → Float
+jerkIn t x = cond (lt #0 t) x #0
 
--- j are the jerks that are recorded with the times t and the jerk jf: + 0 - in phases 0 to 2, under both sign patterns. Each is 64 at most in size.
+-- j are the jerks that are recorded with the times t and the jerk jf: + 0 - in phases 0 to 2, under both sign patterns.
+-- Each is 64 at most in size.
 pub record Jerks (jf : Float) (t j : ℕ → Float) : Type 0 where
-  pub plus : j 0 ≡ jerk (t 0) jf
-  pub none : j 1 ≡ jerk (t 1) #0
-  pub minus : j 2 ≡ jerk (t 2) (neg jf)
+  pub plus : j 0 ≡ jerkIn (t 0) jf
+  pub none : j 1 ≡ jerkIn (t 1) #0
+  pub minus : j 2 ≡ jerkIn (t 2) (neg jf)
   pub finite : (i : ℕ) → i < 7 → Finite (j i)
   pub size : (i : ℕ) → i < 7 → Size (val (j i)) (64 * unit)
 
@@ -67,4 +64,5 @@ residual = 4000
 -- What an attempt shows whose label replaces a[3].
 pub record Replaces (t : ℕ → Float) (tf a0 jf : Float) : Type 0 where
   pub lasts : Lasts t tf
-  pub replaced : (j : ℕ → Float) (p0 v0 : Float) → Jerks jf t j → Replaced residual #0 (motion t j (state p0 v0 a0) 3 .a)
+  pub replaced : (j : ℕ → Float) (p0 v0 : Float) → Jerks jf t j
+      → Replaced residual #0 (motion t j (state p0 v0 a0) 3 .a)

@@ -1,1 +1,2 @@
+-- What is said of the seven times of an attempt.
 pub mod Facts

@@ -1,4 +1,5 @@
--- `float::max` is `maxOf`: x differs from itself exactly where it is NaN, and no test of NaN holds (Cases.antt). Assumes nothing.
+-- `float::max` is `maxOf`. Assumes nothing.
+-- x differs from itself exactly where it is NaN, and no test of NaN holds (Cases.antt).
 use borrow.Author.Needs.{needs}
 use Rattle.float.proofs.Cases.{max-is}
 use Rattle.float.proofs.max.Statement.{statement}
@@ -12,7 +13,8 @@ pick-requires-2 c κs = search needs
 
 returns : tie.Need-returns
 returns c =
-    let start = c .before .before in rw (c .pick2 .ensures, c .before .pick .ensures) (max-is (start .args .x) (start .args .y))
+    let start = c .before .before in rw (c .pick2 .ensures, c .before .pick .ensures)
+    (max-is (start .args .x) (start .args .y))
 
 pub max-spec : {M : Type 1} → statement M
 max-spec = tie.close (tie.spec pick-requires pick-requires-2 returns)

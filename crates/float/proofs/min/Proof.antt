@@ -1,4 +1,5 @@
--- `float::min` is `minOf`: x differs from itself exactly where it is NaN, and no test of NaN holds (Cases.antt). Assumes nothing.
+-- `float::min` is `minOf`. Assumes nothing.
+-- x differs from itself exactly where it is NaN, and no test of NaN holds (Cases.antt).
 use borrow.Author.Needs.{needs}
 use Rattle.float.proofs.Cases.{min-is}
 use Rattle.float.proofs.min.Statement.{statement}
@@ -12,7 +13,8 @@ pick-requires-2 c κs = search needs
 
 returns : tie.Need-returns
 returns c =
-    let start = c .before .before in rw (c .pick2 .ensures, c .before .pick .ensures) (min-is (start .args .x) (start .args .y))
+    let start = c .before .before in rw (c .pick2 .ensures, c .before .pick .ensures)
+    (min-is (start .args .x) (start .args .y))
 
 pub min-spec : {M : Type 1} → statement M
 min-spec = tie.close (tie.spec pick-requires pick-requires-2 returns)

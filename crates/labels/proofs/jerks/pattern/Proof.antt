@@ -14,7 +14,9 @@ use Rattle.labels.proofs.jerks.pattern.Tie as tie
 returns : tie.Need-returns
 returns c =
     rw (c .before .signs-number .ensures)
-    (by-signs (λ s. getD (patternOf UDDU ∷ patternOf UDUD ∷ []) (signsNumber s % 2) [] ≡ patternOf s) refl refl (c .before .before .args .control-signs))
+    (by-signs (λ s. getD (patternOf UDDU ∷ patternOf UDUD ∷ []) (signsNumber s % 2) [] ≡ patternOf s) refl refl
+    (c .before .before .args .control-signs))
 
 pub pattern-spec : {M : Type 1} → statement M
-pattern-spec = tie.close (tie.spec (λ c κs. search needs) (λ c. search needs) (λ c. search needs) (λ c. search needs) returns)
+pattern-spec =
+    tie.close (tie.spec (λ c κs. search needs) (λ c. search needs) (λ c. search needs) (λ c. search needs) returns)

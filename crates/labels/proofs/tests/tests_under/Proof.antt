@@ -13,7 +13,8 @@ use Rattle.labels.proofs.tests.tests_under.Statement.{statement}
 use Rattle.labels.proofs.tests.tests_under.Tie as tie
 
 abbrev row : Bool → Bool → Bool → Bool → Bool → Bool → Tests
-row t3 t1 t5 a3 set-a3 set-a1-a5 = record { t3 = t3; t1 = t1; t5 = t5; a3 = a3; «set_a3» = set-a3; «set_a1_a5» = set-a1-a5 }
+row t3 t1 t5 a3 set-a3 set-a1-a5 =
+    record { t3 = t3; t1 = t1; t5 = t5; a3 = a3; «set_a3» = set-a3; «set_a1_a5» = set-a1-a5 }
 
 abbrev vel : Tests
 vel = row true false false true false false
@@ -37,7 +38,9 @@ returns : tie.Need-returns
 unfolding testsOf
 returns c =
     rw (c .before .label-number .ensures)
-    (by-label (λ l. getD table (labelNumber l % 8) none ≡ testsOf l) refl refl refl refl refl refl refl refl (c .before .before .args .limits))
+    (by-label (λ l. getD table (labelNumber l % 8) none ≡ testsOf l) refl refl refl refl refl refl refl refl
+    (c .before .before .args .limits))
 
 pub tests-under-spec : {M : Type 1} → statement M
-tests-under-spec = tie.close (tie.spec (λ c κs. search needs) (λ c. search needs) (λ c. search needs) (λ c. search needs) returns)
+tests-under-spec =
+    tie.close (tie.spec (λ c κs. search needs) (λ c. search needs) (λ c. search needs) (λ c. search needs) returns)

@@ -1,5 +1,6 @@
--- `nodes` is the run of seven phases. The invariant: the rest of the phases from here is the whole from the start, the
--- arrays keep their lengths, and the numbers are those of entry i. Assumes nothing.
+-- `nodes` is the run of seven phases. Assumes nothing.
+-- The invariant: the rest of the phases from here is the whole from the start, the arrays keep their lengths, and the
+-- numbers are those of entry i.
 use Prim.Native.Nat.{ℕ, _≤_, _<_, _+_, _-_}
 use mathlib.Core.Path.{_≡_, refl, sym, ap, _∙_}
 use mathlib.Core.List.{List}
@@ -85,7 +86,8 @@ returns c =
     let w = r .before .before .before in
     let x = w .before .loop in
     let q = w .before .before .before .before .before .before .before .before .before .args in
-    stops (q .tests) (q .set-limits) (q .a-max) (q .a-min) (q .band) (q .t .now) (q .j .now) (nodes-of (x .a) (x .v) (x .p))
+    stops (q .tests) (q .set-limits) (q .a-max) (q .a-min) (q .band) (q .t .now) (q .j .now)
+    (nodes-of (x .a) (x .v) (x .p))
     (x .i) _ _ _ (x .inv .2) (x .inv .3) (x .inv .4) _ (r .phase .ensures) (w .loop-test .taken)
     (not-true (r .phase .result .ok) (c .if1 .taken))
     ∙ x .inv .1
@@ -98,7 +100,8 @@ loop-again c =
     let q = w .before .before .before .before .before .before .before .before .before .args in
     let more = w .loop-test .taken in (
       omega (arith, more),
-      goes (q .tests) (q .set-limits) (q .a-max) (q .a-min) (q .band) (q .t .now) (q .j .now) (nodes-of (x .a) (x .v) (x .p))
+      goes (q .tests) (q .set-limits) (q .a-max) (q .a-min) (q .band) (q .t .now) (q .j .now)
+          (nodes-of (x .a) (x .v) (x .p))
           (x .i) _ _ _ (x .inv .2) (x .inv .3) (x .inv .4) _ (r .phase .ensures) more
           (not-false (r .phase .result .ok) (c .if1 .left))
           ∙ x .inv .1,

@@ -30,7 +30,8 @@ unfolding sumsOf sumStep
 returns-2 c =
     let l = c .before .before .before in
     let t = l .before .before .before .args .t .now in
-    rw (l .before .if1 .left) (halt (sumStep t) 6 (l .loop .i) (l .loop .t-sum) (no! (l .loop .t-sum)) (rw (c .if2 .taken)) (omega arith) refl ∙ l .loop .inv .1)
+    rw (l .before .if1 .left) (halt (sumStep t) 6 (l .loop .i) (l .loop .t-sum) (no! (l .loop .t-sum))
+    (rw (c .if2 .taken)) (omega arith) refl ∙ l .loop .inv .1)
 
 loop-again : tie.Need-loop-again Inv-loop μ-loop
 unfolding sumStep
@@ -38,8 +39,11 @@ loop-again c =
     let l = c .before .before .before .before in
     let t = l .before .before .before .args .t .now in
     let i = l .loop .i in
-    let s = l .loop .t-sum in
-    (omega arith, turn (sumStep t) 6 i s (yes! (set s (i + 1) (getD s i nan ⊕ getD t (i + 1) nan))) (rw (c .before .if2 .left)) (omega arith) refl ∙ l .loop .inv .1)
+    let s = l .loop .t-sum in (
+      omega arith,
+      turn (sumStep t) 6 i s (yes! (set s (i + 1) (getD s i nan ⊕ getD t (i + 1) nan)))
+          (rw (c .before .if2 .left)) (omega arith) refl ∙ l .loop .inv .1,
+    )
 
 returns-3 : tie.Need-returns-3 Inv-loop μ-loop
 unfolding sumsOf

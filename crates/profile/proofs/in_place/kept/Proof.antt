@@ -12,8 +12,15 @@ returns c =
     let v3 = v4 .before .before in
     let a5 = v3 .before .before in
     let a3 = a5 .before .before in
-    rw
-    (c .within7 .ensures, v5 .within6 .ensures, v4 .within5 .ensures, v3 .within4 .ensures, a5 .within3 .ensures, a3 .within2 .ensures, a3 .before .before .within .ensures)
+    rw (
+      c .within7 .ensures,
+      v5 .within6 .ensures,
+      v4 .within5 .ensures,
+      v3 .within4 .ensures,
+      a5 .within3 .ensures,
+      a3 .within2 .ensures,
+      a3 .before .before .within .ensures,
+    )
 
 pub kept-spec : {M : Type 1} → statement M
 kept-spec =
