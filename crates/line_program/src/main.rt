@@ -1,9 +1,13 @@
-// The line program: each line of standard input gets its reply, or its refusal in two decimal digits, each ended by a line feed.
+// The line program: each line of standard input gets its reply, or its refusal in two decimal digits, each ended by a
+// line feed.
 // What is written for which input is `line_stream`'s; here blocks are read and written.
 use libc::STDIN_FILENO;
 use libc::STDOUT_FILENO;
+use line_stream::KEPT;
+use line_stream::ROOM;
 ghost use Prim.Native.Nat.{_≤_};
 ghost use lib.ListN.{length};
+ghost use Rattle.line_stream.specs.Output.{answerMost};
 
 // The characters kept of a line that has begun, and whether all that was answered is written.
 struct Answered {
@@ -12,8 +16,8 @@ struct Answered {
 }
 
 // Answers the lines that end in `input`, and writes the answers a block at a time.
-fn answer(input: &[u8], kept: &mut [u8; 297], count: usize, out: &mut [u8]) -> Answered
-    requires { ⌜ 729 ≤ length (now out) ⌝ }
+fn answer(input: &[u8], kept: &mut [u8; KEPT], count: usize, out: &mut [u8]) -> Answered
+    requires { ⌜ answerMost ≤ length (now out) ⌝ }
 {
     let mut count = count;
     let mut at = 0;
@@ -41,10 +45,10 @@ struct Ended {
     is_whole: bool,
 }
 
-// Reads to the end of the input, or to the first read or write that fails. A proved loop has to end, and nothing says that the input does:
-// so the turns are counted down, from a number that no run uses up.
-fn run(block: &mut [u8], kept: &mut [u8; 297], out: &mut [u8]) -> Ended
-    requires { ⌜ 729 ≤ length (now out) ⌝ }
+// Reads to the end of the input, or to the first read or write that fails. A proved loop has to end, and nothing says
+// that the input does: so the turns are counted down, from a number that no run uses up.
+fn run(block: &mut [u8], kept: &mut [u8; KEPT], out: &mut [u8]) -> Ended
+    requires { ⌜ answerMost ≤ length (now out) ⌝ }
 {
     let mut count = 0;
     let mut turns = u64::MAX;
@@ -73,14 +77,15 @@ fn run(block: &mut [u8], kept: &mut [u8; 297], out: &mut [u8]) -> Ended
     }
 }
 
-// A line that has begun is answered where the input ends. After a read that failed it is not: more of it may stand in the input.
+// A line that has begun is answered where the input ends. After a read that failed it is not: more of it may stand in
+// the input.
 fn main() {
     let mut block = io::large_buffer();
     let mut out = io::large_buffer();
-    let mut kept = [0u8; 297];
+    let mut kept = [0u8; KEPT];
     let ended = run(&mut block, &mut kept, &mut out);
     if ended.is_whole {
-        let mut last = [0u8; 729];
+        let mut last = [0u8; ROOM];
         let n = line_stream::finish(&kept, ended.count, &mut last);
         io::write_all(STDOUT_FILENO, &last[..n]);
     }

@@ -1,55 +1,86 @@
--- The length of a reply, by the line's first two characters; the most characters of an answer. Assumes nothing.
-use mathlib.Core.Path.{_≡_, refl}
-use mathlib.Core.Bool.{Bool, true, false, cond, _&&_}
-use mathlib.Core.List.{List, [], _∷_}
-use Prim.Native.Nat.{ℕ, suc, _+_, _≤_, _<_, min}
+-- A line's text: its length is at most `answerMost`, and it does not depend on what the lent places hold, where
+-- `replyMost` are lent. Assumes nothing.
+use mathlib.Core.Path.{_≡_, refl, ap, sym, _∙_}
+use mathlib.Core.Bool.{Bool, true, false, cond}
+use mathlib.Core.List.{List, [], _∷_, _++_}
+use Prim.Native.Nat.{ℕ, _+_, _≤_, min}
 use native.Mathlib.Omega.{arith}
-use lib.Dec.{eqb}
+use lib.Dec.{eqb, leb, lit≤}
 use lib.ListN.{length, take, replicate, length-append, length-take}
-use Rattle.lines.specs.Answer.{Answer, answerOf}
-use Rattle.line_stream.specs.Output.{isQuartics, replyLength, twoDigits, textOf, lineOutput}
+use lib.Seq.{take-at}
+use borrow.Author.Tests.{ne-eqb, le-leb}
+use Rattle.line_kinds.specs.Kinds.{replyMost, rowOf}
+use Rattle.line_kinds.proofs.Rows.{sound}
+use Rattle.line_questions.specs.Questions.{placesFit}
+use Rattle.lines.specs.Answer.{repliedOf, answerOf, Outcome, outcomeOf}
+use Rattle.line_places.specs.Exactly.{kindOf, replyTo}
+use Rattle.line_stream.specs.Output.{answerMost, twoDigits, textOf, lineOutput}
+use Rattle.line_stream.proofs.Replies.{reply-first, reply-exact}
 
-pub short : (line : List ℕ) → length line < 2 → 728 ≡ replyLength line
-short [] h = refl
-short (x ∷ []) h = neither (eqb x 48)
+-- ---- the most places
+pub filled-most : (line lent : List ℕ) → outcomeOf line lent .filled ≤ replyMost
+unfolding outcomeOf
+filled-most line lent = by (eqb (answerOf line lent .number) 0)
   where
-    neither : (b : Bool) → _≡_ {A = ℕ} 728 (cond (b && false) 228 728)
-    neither true = refl
-    neither false = refl
-short (x ∷ y ∷ line) h = absurd (none (length line) h)
-  where
-    none : (n : ℕ) → suc (suc n) < 2 → ⊥
-    none n h = omega arith
-
-pub quartics : (line : List ℕ) → isQuartics line ≡ true → 228 ≡ replyLength line
-quartics line h = rw h
-
-pub others : (line : List ℕ) → isQuartics line ≡ false → 728 ≡ replyLength line
-others line h = rw h
-
-pub reply-most : (line : List ℕ) → replyLength line ≤ 728
-reply-most line = by (isQuartics line)
-  where
-    by : (b : Bool) → cond b 228 728 ≤ 728
-    by true = omega arith
+    by : (b : Bool) → cond b (rowOf (kindOf line) .places) 0 ≤ replyMost
+    by true = sound (kindOf line) .2
     by false = omega arith
 
-text-most : (line : List ℕ) (a : Answer) → length (textOf line a) ≤ 728
-text-most line a = by (eqb (a .number) 0)
+text-most : (a : Outcome) → a .filled ≤ replyMost → length (textOf a) ≤ replyMost
+text-most a h = by (eqb (a .number) 0)
   where
-    by : (b : Bool) → length (cond b (take (replyLength line) (a .places)) (twoDigits (a .number))) ≤ 728
-    by true = rw (length-take (replyLength line) (a .places)) (least (replyLength line) (length (a .places)) (reply-most line))
-      where
-        least : (n m : ℕ) → n ≤ 728 → min n m ≤ 728
-        least n m h = omega arith
+    by : (b : Bool) → length (cond b (take (a .filled) (a .places)) (twoDigits (a .number))) ≤ replyMost
+    by true = rw (length-take (a .filled) (a .places)) (omega arith)
     by false = omega arith
 
--- an answer has at most 729 characters
-pub output-most : (line : List ℕ) → length (lineOutput line) ≤ 729
+pub output-most : (line : List ℕ) → length (lineOutput line) ≤ answerMost
 unfolding lineOutput
 output-most line =
-    let a : Answer = answerOf line (replicate 728 0) in
-    rw (length-append (textOf line a) (10 ∷ [])) (more (length (textOf line a)) (text-most line a))
+    let a : Outcome = outcomeOf line (replicate replyMost 0) in
+    rw (length-append (textOf a) (10 ∷ []))
+    (more (length (textOf a)) (text-most a (filled-most line (replicate replyMost 0))))
   where
-    more : (n : ℕ) → n ≤ 728 → n + 1 ≤ 729
+    more : (n : ℕ) → n ≤ replyMost → n + 1 ≤ answerMost
     more n h = omega arith
+
+-- ---- the number, whatever is lent
+-- question 8 is answered yes
+enough : (n p : ℕ) → replyMost ≤ p → placesFit (rowOf n) p ≡ true
+enough n p h = le-leb (rowOf n .places) p (within (rowOf n .places) (sound n .2))
+  where
+    within : (r : ℕ) → r ≤ replyMost → r ≤ p
+    within r l = omega arith
+
+same-number : (line lent other : List ℕ) → replyMost ≤ length lent → replyMost ≤ length other
+    → answerOf line lent .number ≡ answerOf line other .number
+unfolding answerOf repliedOf
+same-number line lent other h k = rw (enough (kindOf line) (length lent) h, enough (kindOf line) (length other) k)
+
+zeros-enough : replyMost ≤ length {A = ℕ} (replicate replyMost 0)
+zeros-enough = lit≤ tt
+
+-- ---- the text
+text-number : (a : Outcome) (n : ℕ) → a .number ≡ n → (n ≡ 0 → ⊥) → textOf a ≡ twoDigits n
+text-number a n e z = rw (e, ne-eqb n 0 z)
+
+reply-text : (line lent : List ℕ) → answerOf line lent .number ≡ 0 → textOf (outcomeOf line lent) ≡ replyTo line
+unfolding outcomeOf
+reply-text line lent said =
+    rw (said, reply-first line lent said, ← reply-exact line lent said)
+    (take-at (replyTo line) _ (length (replyTo line)) refl)
+
+module _ (line lent : List ℕ) (h : replyMost ≤ length lent) where
+  zeros-number : answerOf line (replicate replyMost 0) .number ≡ answerOf line lent .number
+  zeros-number = same-number line (replicate replyMost 0) lent zeros-enough h
+
+  pub output-reply : answerOf line lent .number ≡ 0 → lineOutput line ≡ replyTo line ++ (10 ∷ [])
+  unfolding lineOutput
+  output-reply said =
+      ap (λ (l : List ℕ). l ++ (10 ∷ [])) (reply-text line (replicate replyMost 0) (zeros-number ∙ said))
+
+  pub output-number : (n : ℕ) → answerOf line lent .number ≡ n → (n ≡ 0 → ⊥)
+      → lineOutput line ≡ twoDigits n ++ (10 ∷ [])
+  unfolding lineOutput outcomeOf
+  output-number n e z =
+      ap (λ (l : List ℕ). l ++ (10 ∷ []))
+      (text-number (outcomeOf line (replicate replyMost 0)) n (zeros-number ∙ e) z)

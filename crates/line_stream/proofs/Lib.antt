@@ -1,11 +1,8 @@
-pub mod Copies
-pub mod Feeds
+-- The answers of the line entry as a stream of lines: what they are, whatever places are lent, and how long they are.
+pub mod Replies
 pub mod Answers
-pub mod KindLength
 pub mod Lent
-pub mod Keeping
-pub mod Streaming
+pub mod Ending
 pub mod FirstQuestion
-pub mod Ends
 pub mod Whole
-pub mod Bounds
+pub mod Ends

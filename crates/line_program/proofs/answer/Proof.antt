@@ -1,11 +1,13 @@
--- `answer` is safe and ends: each call of `stream` uses something of the input. The measure is what is left of it. Assumes nothing.
+-- `answer` is safe and ends: each call of `stream` uses something of the input. The measure is what is left of it.
+-- Assumes nothing.
 use mathlib.Core.Path.{_≡_, sym, _∙_}
 use Prim.Native.Nat.{ℕ, _≤_, _<_, _+_, _-_, _^_}
 use native.Mathlib.Omega.{arith}
 use lib.ListN.{length}
 use lib.Seq.{length-take-le}
 use borrow.Author.Needs.{needs}
-use Rattle.line_stream.proofs.Bounds.{advances, filled-within}
+use Rattle.line_cut.proofs.Bounds.{advances, filled-within}
+use Rattle.line_stream.specs.Output.{answerMost, lineWay}
 use Rattle.line_program.proofs.answer.Statement.{statement}
 use Rattle.line_program.proofs.answer.Tie as tie
 
@@ -21,8 +23,10 @@ add-at c =
     let t = y .before .before .before .before in
     let l = t .before in
     let s = l .before .before .before in
-    let w : 729 ≤ length (l .loop .out) = omega arith in
-    let m = advances (s .args .input .now) _ _ (l .loop .out) _ (l .loop .at) (y .stream .result .used) (y .stream .result .count) (y .stream .result .filled) (t .loop-test .taken) w (y .stream .ensures) in
+    let w : answerMost ≤ length (l .loop .out) = omega arith in
+    let m =
+    advances lineWay (s .args .input .now) tt _ _ (l .loop .out) _ (l .loop .at) _ _ _
+    (t .loop-test .taken) w (y .stream .ensures) in
     record { fits = next _ _ (m .1) (s .good .0 .0) }
   where
     next : (n input : ℕ) → n ≤ input → input < 2 ^ 64 → n < 2 ^ 64
@@ -44,8 +48,10 @@ loop-less c =
     let t = y .before .before .before .before in
     let l = t .before in
     let s = l .before .before .before in
-    let w : 729 ≤ length (l .loop .out) = omega arith in
-    let m = advances (s .args .input .now) _ _ (l .loop .out) _ (l .loop .at) (y .stream .result .used) (y .stream .result .count) (y .stream .result .filled) (t .loop-test .taken) w (y .stream .ensures) in
+    let w : answerMost ≤ length (l .loop .out) = omega arith in
+    let m =
+    advances lineWay (s .args .input .now) tt _ _ (l .loop .out) _ (l .loop .at) _ _ _
+    (t .loop-test .taken) w (y .stream .ensures) in
     less _ _ _ (m .0) (m .1)
   where
     less : (at used input : ℕ) → 0 < used → at + used ≤ input → input - (at + used) < input - at
@@ -57,8 +63,10 @@ loop-again c =
     let t = y .before .before .before .before in
     let l = t .before in
     let s = l .before .before .before in
-    let w : 729 ≤ length (l .loop .out) = omega arith in
-    let m = advances (s .args .input .now) _ _ (l .loop .out) _ (l .loop .at) (y .stream .result .used) (y .stream .result .count) (y .stream .result .filled) (t .loop-test .taken) w (y .stream .ensures) in
+    let w : answerMost ≤ length (l .loop .out) = omega arith in
+    let m =
+    advances lineWay (s .args .input .now) tt _ _ (l .loop .out) _ (l .loop .at) _ _ _
+    (t .loop-test .taken) w (y .stream .ensures) in
     let e : length (y .stream .last .1 .1 .1 .0) ≡ length (l .loop .out) = search needs in
     (m .1, e ∙ l .loop .inv .1)
 

@@ -2,7 +2,7 @@
 use mathlib.Core.Path.{sym}
 use lib.Seq.{length-take-le}
 use borrow.Author.Needs.{needs}
-use Rattle.line_stream.proofs.Bounds.{last-within}
+use Rattle.line_cut.proofs.Bounds.{last-within}
 use Rattle.line_program.proofs.main.Statement.{statement}
 use Rattle.line_program.proofs.main.Tie as tie
 

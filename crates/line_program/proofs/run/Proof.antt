@@ -1,4 +1,5 @@
--- `run` is safe and ends. The measure is the number of turns that are left; the lent slices keep their lengths. Assumes nothing.
+-- `run` is safe and ends. The measure is the number of turns that are left; the lent slices keep their lengths.
+-- Assumes nothing.
 use mathlib.Core.Path.{_≡_, sym}
 use native.Mathlib.Omega.{arith}
 use lib.ListN.{length}
@@ -8,7 +9,8 @@ use Rattle.line_program.proofs.run.Statement.{statement}
 use Rattle.line_program.proofs.run.Tie as tie
 
 abbrev Inv-loop : tie.InvT-loop
-Inv-loop block₀ kept₀ out₀ count₀ turns₀ block kept out count turns = (length block ≡ length block₀) × (length out ≡ length out₀)
+Inv-loop block₀ kept₀ out₀ count₀ turns₀ block kept out count turns =
+    (length block ≡ length block₀) × (length out ≡ length out₀)
 
 abbrev μ-loop : tie.MeasureT-loop
 μ-loop block₀ kept₀ out₀ count₀ turns₀ block kept out count turns = turns

@@ -1,16 +1,20 @@
--- `stream_lines` is `streamOf`. The invariant is `Going`; the measure is what is left of the input, and one more. Assumes nothing.
+-- `stream_lines` is `callOf`. The invariant is `Going`; the measure is what is left of the input, and one more.
+-- Assumes nothing.
 use mathlib.Core.Path.{_≡_, sym, _∙_}
 use Prim.Native.Nat.{ℕ, _≤_, _<_, _+_, _-_, _^_}
 use native.Mathlib.Omega.{arith}
 use lib.ListN.{length, take}
 use borrow.Author.Needs.{needs}
-use Rattle.line_stream.proofs.Keeping.{held}
-use Rattle.line_stream.proofs.Streaming.{Going, begins, out-of-room, out-of-input, end-within, turns}
+use Rattle.line_cut.specs.Stream.{keptMost}
+use Rattle.line_cut.proofs.Turns.{Going, begins, out-of-room, out-of-input, end-within, turns}
+use Rattle.line_stream.specs.Output.{answerMost, lineWay}
+use Rattle.line_stream.proofs.Whole.{holds}
 use Rattle.line_stream.proofs.stream_lines.Statement.{statement}
 use Rattle.line_stream.proofs.stream_lines.Tie as tie
 
 abbrev Inv-loop : tie.InvT-loop
-Inv-loop input kept₀ count out₀ count₀ at₀ filled₀ kept out count' at filled = Going input (take count kept₀) out₀ kept out count' at filled
+Inv-loop input kept₀ count out₀ count₀ at₀ filled₀ kept out count' at filled =
+    Going lineWay tt input (take count kept₀) out₀ tt kept out count' at filled
 
 abbrev μ-loop : tie.MeasureT-loop
 μ-loop input kept₀ count out₀ count₀ at₀ filled₀ kept out count' at filled = length input + 1 - at
@@ -18,31 +22,50 @@ abbrev μ-loop : tie.MeasureT-loop
 loop-holds : tie.Need-loop-holds Inv-loop μ-loop
 loop-holds c =
     let s = c .before .before .before .before in
-    begins (s .args .input .now) (s .args .kept .now) (s .args .out .now) (s .args .count) (c .least .result) (s .pre) (c .least .ensures)
-    (held (s .args .kept .now) (s .args .count) (c .least .result) (s .pre) (c .least .ensures))
+    let q = s .args in
+    begins lineWay tt (q .input .now) (q .kept .now) (q .out .now) (q .count) (c .least .result) (s .pre)
+    (c .least .ensures)
+
+sub-loop : tie.Need-sub-loop Inv-loop μ-loop
+sub-loop c = c .loop .inv .room
 
 sub-keep : tie.Need-sub-keep Inv-loop μ-loop
 sub-keep c = c .before .before .before .before .loop .inv .within
 
-keep-requires : tie.Need-keep-requires Inv-loop μ-loop
-keep-requires c κs = let g = c .before .before .before .before .before .loop .inv in (g .few, g .whole)
+part-keep-start : tie.Need-part-keep-start Inv-loop μ-loop
+part-keep-start c = c .before .before .before .before .loop .inv .within
+
+part-keep-end : tie.Need-part-keep-end Inv-loop μ-loop
+part-keep-end c = omega arith
 
 same-length : tie.Need-same-length Inv-loop μ-loop
 same-length c =
     let k = c .before .before in
-    let w : length (k .keep .last .0) ≡ 297 = search needs in
+    let w : length (k .keep .last .0) ≡ keptMost lineWay = search needs in
     w ∙ sym (k .before .before .before .before .before .before .before .before .before .before .before .pre)
+
+same-length-2 : tie.Need-same-length-2 Inv-loop μ-loop
+same-length-2 c = c .before .before .before .before .before .before .before .before .loop .inv .same
 
 returns : tie.Need-returns Inv-loop μ-loop
 returns c =
     let k = c .before .before in
     let i = k .before .before .before in
     let f = i .before in
-    let w : length (k .keep .last .0) ≡ 297 = search needs in
-    out-of-input (f .before .before .loop .inv) (f .before .loop-test .taken) (f .find .result) (f .find .ensures) (i .if1 .taken) (k .keep .result) (k .keep .last .0) w (k .keep .ensures)
+    let w : length (k .keep .last .0) ≡ keptMost lineWay = search needs in
+    out-of-input (f .before .before .loop .inv) (f .before .loop-test .taken) (f .find .result) (f .find .ensures)
+    (i .if1 .taken)
+    (k .keep .result)
+    (k .keep .last .0)
+    w
+    (k .keep .ensures)
+    .0
 
 sub-end-line : tie.Need-sub-end-line Inv-loop μ-loop
 sub-end-line c = let e = c .before .find .ensures in omega arith
+
+part-end-line-start : tie.Need-part-end-line-start Inv-loop μ-loop
+part-end-line-start c = let e = c .before .find .ensures in omega arith
 
 part-end-line-end : tie.Need-part-end-line-end Inv-loop μ-loop
 part-end-line-end c =
@@ -53,9 +76,9 @@ end-line-requires : tie.Need-end-line-requires Inv-loop μ-loop
 end-line-requires c κs =
     let t = c .before .before .before .before .before in
     let g = t .before .loop .inv in
-    ((g .few, g .whole), enough _ _ (g .room) (t .loop-test .taken))
+    (g .whole, enough _ _ (g .room) (t .loop-test .taken))
   where
-    enough : (filled out : ℕ) → filled ≤ out → 729 ≤ out - filled → filled + 729 ≤ out
+    enough : (filled out : ℕ) → filled ≤ out → answerMost ≤ out - filled → filled + answerMost ≤ out
     enough filled out w h = omega arith
 
 add-at : tie.Need-add-at Inv-loop μ-loop
@@ -80,14 +103,25 @@ loop-again c =
     let e = c .before .before .before .before in
     let i = e .before .before .before .before in
     let f = i .before in
-    let w : length (e .end-line .last .1 .0) ≡ 297 = search needs in
-    turns (f .before .before .loop .inv) (f .before .loop-test .taken) (f .find .result) (f .find .ensures) (i .if1 .left) _ _ (e .end-line .result) w (e .end-line .ensures)
+    let w : length (e .end-line .last .1 .0) ≡ keptMost lineWay = search needs in
+    turns (f .before .before .loop .inv) (f .before .loop-test .taken) (f .find .result) (f .find .ensures)
+    holds
+    (i .if1 .left)
+    _
+    _
+    (e .end-line .result)
+    w
+    (e .end-line .ensures)
 
 same-length-3 : tie.Need-same-length-3 Inv-loop μ-loop
-same-length-3 c = c .before .loop .inv .whole ∙ sym (c .before .before .before .before .before .before .pre)
+same-length-3 c =
+    c .before .loop .inv .whole ∙ sym (c .before .before .before .before .before .before .pre)
+
+same-length-4 : tie.Need-same-length-4 Inv-loop μ-loop
+same-length-4 c = c .before .loop .inv .same
 
 returns-2 : tie.Need-returns-2 Inv-loop μ-loop
-returns-2 c = out-of-room (c .before .loop .inv) (c .loop-test .left)
+returns-2 c = out-of-room (c .before .loop .inv) (c .loop-test .left) .0
 
 pub stream-lines-spec : {M : Type 1} → statement M
 stream-lines-spec =
@@ -97,22 +131,22 @@ stream-lines-spec =
     μ-loop
     (λ c κs. search needs)
     loop-holds
-    (λ c. c .loop .inv .room)
+    sub-loop
     (λ c κs. search needs)
     sub-keep
-    sub-keep
-    (λ c. omega arith)
-    keep-requires
+    part-keep-start
+    part-keep-end
+    (λ c κs. search needs)
     same-length
-    (λ c. c .before .before .before .before .before .before .before .before .loop .inv .same)
+    same-length-2
     returns
     sub-end-line
-    sub-end-line
+    part-end-line-start
     part-end-line-end
     end-line-requires
     add-at
     loop-less
     loop-again
     same-length-3
-    (λ c. c .before .loop .inv .same)
+    same-length-4
     returns-2)
