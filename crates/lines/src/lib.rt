@@ -68,3 +68,14 @@ pub extern "C" fn answer_line(request: &[u8], reply: &mut [u8]) -> u32
     let a = answered(request, reply);
     a.number
 }
+
+// The same with the count, for a host that does not know the kinds.
+#[no_mangle]
+pub extern "C" fn answer_counted(request: &[u8], reply: &mut [u8], filled: &mut usize) -> u32
+    ensures { λ r. ⌜ record { number = r; filled = now (filled .exit); places = now (reply .exit) }
+        ≡ outcomeOf (now (request .entry)) (now (reply .entry)) ⌝ }
+{
+    let a = answered(request, reply);
+    *filled = a.filled;
+    a.number
+}
