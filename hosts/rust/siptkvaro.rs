@@ -36,6 +36,7 @@ fn call(request: &[u8], reply: &mut [u8]) -> (u32, usize) {
     // SAFETY: the entry has no `requires`. It reads the request and writes the
     // reply within their lengths, and writes the count; the three borrows keep
     // all alive and apart.
-    let number = unsafe { answer_counted(request.as_ptr(), request.len(), lent, length, &mut filled) };
+    let number =
+        unsafe { answer_counted(request.as_ptr(), request.len(), lent, length, &mut filled) };
     (number, filled)
 }
