@@ -1,4 +1,5 @@
--- The premises of demand 3 at the line can be met: the answer to document 01's line of kind 01 is 0, its reply says yes and is within the sizes, and so it arrives. Assumes nothing.
+-- The premises of demand 3 at the line can be met: the answer to document 01's line of kind 01 is 0, its reply says yes and is
+-- within the sizes, and so it arrives. Assumes nothing.
 use mathlib.Core.Path.{_≡_, refl}
 use Prim.Native.Nat.{ℕ, _*_}
 use lib.Dec.{lit≤}
@@ -20,16 +21,17 @@ use Rattle.rounding.specs.Value.{unit, mag, sign, val}
 use Rattle.rounding.specs.Motion.{lasts}
 use Rattle.profile_arrives.proofs.Steps.{by-seven}
 use Rattle.step2_solver.specs.New.{newOf}
-use Rattle.step2_solver.specs.TimeAcc0Acc1Vel.{acc0Acc1VelUdduApplies, acc0Acc1VelUdduRadicand, acc0Acc1VelUdduH1, acc0Acc1VelUdduT1, acc0Acc1VelUdduTimes, acc0Acc1VelUdudApplies, acc0Acc1VelUdudT1, acc0Acc1VelUdudT3, acc0Acc1VelUdudTimes}
-use Rattle.step2_attempt.specs.Attempt.{attemptOf}
-use Rattle.step2_shapes.specs.TimeAcc0Acc1Vel.{acc0Acc1VelUddu, acc0Acc1VelUdud, timeAcc0Acc1VelOf}
+use Rattle.step2_solver.specs.declared.Shape.the-variants.{Acc0Acc1Vel}
+use Rattle.step2_solver.specs.TimeAcc0Acc1Vel.{acc0Acc1VelUdduApplies, acc0Acc1VelUdduRadicand, acc0Acc1VelUdduH1}
+use Rattle.step2_solver.specs.TimeAcc0Acc1Vel.{acc0Acc1VelUdduT1, acc0Acc1VelUdduTimes, acc0Acc1VelUddu}
+use Rattle.step2_attempt.specs.Attempt.{attemptOf, tryOf, triedOf}
+use Rattle.line_kinds.specs.Kinds.{rowOf}
 use Rattle.line_frame.specs.Frame.{wordAt}
-use Rattle.line_frame.specs.Numbers.{shapeNumbersOf}
+use Rattle.line_frame.specs.Numbers.{moveOf}
+use Rattle.line_questions.specs.Questions.{countsFit, countsSuit, questionsOf}
 use Rattle.line_reply.specs.Reply.{headOf, rowsOf, replyBytesOf}
 use Rattle.lines.specs.ShapeLine.{shapeLineOf}
-use Rattle.line_questions.specs.Kinds.{frameBytes, replyPlaces}
-use Rattle.line_questions.specs.Questions.{bytesFit, numbersFit, countsFit}
-use Rattle.lines.specs.Answer.{Answer, replyOf, answerOf}
+use Rattle.lines.specs.Answer.{Answer, replyOf, repliedOf, answerOf}
 use Rattle.line_arrives.specs.LineArrives.{AsksShape, SaysYes, jerkIn, Sizes, Demand3}
 use Rattle.line_arrives.specs.Worked.{worked-line}
 use Rattle.line_arrives.proofs.Theorem.{yes-arrives}
@@ -39,10 +41,14 @@ answer = answerOf worked-line (replicate 728 0)
 
 -- all of it computes
 met : (answer .number ≡ 0) × AsksShape worked-line × SaysYes (answer .places) × Sizes worked-line (answer .places)
-unfolding timeAcc0Acc1VelOf acc0Acc1VelUddu acc0Acc1VelUdduApplies acc0Acc1VelUdduRadicand acc0Acc1VelUdduH1 acc0Acc1VelUdduT1 acc0Acc1VelUdduTimes acc0Acc1VelUdud acc0Acc1VelUdudApplies acc0Acc1VelUdudT1 acc0Acc1VelUdudT3 acc0Acc1VelUdudTimes newOf attemptOf boundaryOf checkOf sumsOf sumStep run refusedOf testsOf jerksOf phaseOf nodeOf replacedOf zeroInsideOf integrateOf bandOf arrivedOf keptOf absOf sqrtOf ofBits toBits neg add sub mul div lt le eq wordAt shapeNumbersOf headOf rowsOf replyBytesOf shapeLineOf frameBytes replyPlaces bytesFit numbersFit countsFit replyOf answerOf unit mag sign val lasts
+unfolding triedOf tryOf acc0Acc1VelUddu acc0Acc1VelUdduApplies acc0Acc1VelUdduRadicand acc0Acc1VelUdduH1
+    acc0Acc1VelUdduT1 acc0Acc1VelUdduTimes newOf attemptOf boundaryOf checkOf sumsOf sumStep run refusedOf testsOf jerksOf
+    phaseOf nodeOf replacedOf zeroInsideOf integrateOf bandOf arrivedOf keptOf absOf sqrtOf ofBits toBits neg add sub mul div
+    lt le eq wordAt moveOf headOf rowsOf replyBytesOf shapeLineOf rowOf countsFit countsSuit questionsOf replyOf repliedOf
+    answerOf unit mag sign val lasts
 met = (
   refl,
-  (lit≤ tt, lit≤ tt),
+  record { shape = Acc0Acc1Vel; asked = refl },
   refl,
   record {
     position = record { over = lit≤ tt; under = lit≤ tt };

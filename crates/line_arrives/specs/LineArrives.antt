@@ -10,10 +10,15 @@ use Rattle.rounding.specs.Value.{unit, val, Finite}
 use Rattle.rounding.specs.Motion.{Moving, perA, perV, perP, state, motion, lasts}
 use Rattle.profile_arrives.specs.Reply.{upper, lower}
 use Rattle.profile_arrives.specs.Arrives.{Fraction, _over_, Distances, At, Between, demanded, proved}
-use Rattle.step2_arrives.specs.Moves.{Move, Numbers, Close, in-time}
+use Rattle.step2_solver.specs.declared.Move.{Move}
+use Rattle.step2_solver.specs.declared.Shape.{Shape}
+use Rattle.step2_arrives.specs.Moves.{Numbers, Close, in-time}
 use Rattle.step2_times.specs.Facts.{roundings, residual}
 use Rattle.hex.specs.Hex.{bytesOf}
+use Rattle.line_kinds.specs.declared.Asks.the-variants.{OfShape}
+use Rattle.line_kinds.specs.Kinds.{rowOf}
 use Rattle.line_frame.specs.Frame.{byteAt, numberAt}
+use Rattle.line_frame.specs.Numbers.{moveOf}
 
 -- byte i that characters stand for, two a byte; and the f64 whose bits are the eight bytes from byte i on
 abbrev pub byteIn : List ℕ → ℕ → ℕ
@@ -22,26 +27,13 @@ byteIn characters i = byteAt (bytesOf characters) i
 abbrev pub numberIn : List ℕ → ℕ → Float
 numberIn characters i = numberAt (byteAt (bytesOf characters)) i
 
--- ---- the line: its kind, and twelve numbers in the order of `new`
-abbrev pub AsksShape : List ℕ → Type 0
-AsksShape line = (1 ≤ byteIn line 0) × (byteIn line 0 ≤ 5)
+-- ---- the line: what its kind asks, and its twelve numbers
+pub record AsksShape (line : List ℕ) : Type 0 where
+  pub shape : Shape
+  pub asked : rowOf (byteIn line 0) .asks ≡ OfShape shape
 
 abbrev pub moveIn : List ℕ → Move
-moveIn line =
-    record {
-      tf = numberIn line 1;
-      p0 = numberIn line 9;
-      v0 = numberIn line 17;
-      a0 = numberIn line 25;
-      pf = numberIn line 33;
-      vf = numberIn line 41;
-      af = numberIn line 49;
-      v-max = numberIn line 57;
-      v-min = numberIn line 65;
-      a-max = numberIn line 73;
-      a-min = numberIn line 81;
-      j-max = numberIn line 89;
-    }
+moveIn line = moveOf (byteAt (bytesOf line))
 
 -- ---- the reply: verdict, label, direction, signs; then t, t_sum and j, seven each
 abbrev pub SaysYes : List ℕ → Type 0
@@ -72,10 +64,10 @@ pub record Sizes (line reply : List ℕ) : Type 0 where
 -- ---- what it is to arrive
 -- the velocity and the acceleration X between the limits of the move, within f
 abbrev pub VelocityKept : Fraction → Move → D → Type 0
-VelocityKept f m X = Between f perV (lower (m .v-max) (m .v-max) (m .v-min)) X (upper (m .v-max) (m .v-max) (m .v-min))
+VelocityKept f m X = Between f perV (lower (m .«v_max») (m .«v_max») (m .«v_min»)) X (upper (m .«v_max») (m .«v_max») (m .«v_min»))
 
 abbrev pub AccelerationKept : Fraction → Move → D → Type 0
-AccelerationKept f m X = Between f perA (lower (m .v-max) (m .a-max) (m .a-min)) X (upper (m .v-max) (m .a-max) (m .a-min))
+AccelerationKept f m X = Between f perA (lower (m .«v_max») (m .«a_max») (m .«a_min»)) X (upper (m .«v_max») (m .«a_max») (m .«a_min»))
 
 -- `val` takes a NaN and an infinity for 0; the first two fields say that there is none.
 pub record LineArrives (w : Distances) (s : Fraction) (line reply : List ℕ) : Type 0 where

@@ -23,7 +23,8 @@ use Rattle.roots.specs.declared.Need.the-variants.{Nothing, Cube, Resolvent}
 use Rattle.roots.specs.Quartic.{needOf, needNumber, resolventOf}
 use Rattle.line_frame.specs.Frame.{Frame}
 use Rattle.line_reply.specs.Reply.{numbersBytes, headOf, rowsOf, replyBytesOf, quarticBytesOf, quarticBytes}
-use Rattle.line_questions.specs.Quartics.{quarticsAt}
+use Rattle.step2_solver.specs.declared.Shape.{Shape}
+use Rattle.line_questions.specs.Questions.{quarticsAt}
 use Rattle.lines.specs.QuarticLine.{quarticLineOf}
 
 -- every one of a list is a byte
@@ -110,8 +111,8 @@ quartic a b c d =
 of-list : (p : List Float) → Bytes (quarticBytes p)
 of-list p = quartic (getD p 0 nan) (getD p 1 nan) (getD p 2 nan) (getD p 3 nan)
 
-pub quartics-bytes : (at : Frame) → Bytes (quarticLineOf at)
+pub quartics-bytes : (shape : Shape) (at : Frame) → Bytes (quarticLineOf shape at)
 unfolding quarticLineOf
-quartics-bytes at =
-    let q = quarticsAt at in
+quartics-bytes shape at =
+    let q = quarticsAt shape at in
     bytes-append (quarticBytes (q .uddu)) (quarticBytes (q .udud)) (of-list (q .uddu)) (of-list (q .udud))

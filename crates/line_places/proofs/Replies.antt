@@ -1,93 +1,91 @@
--- The reply has the places that the table of kinds says, two characters a byte: 728 for kinds 00 to 05, after a no as after a yes, and 228 for kinds 06 and 07; and every entry of it is a byte. Assumes nothing.
-use mathlib.Core.Path.{_≡_, refl, _∙_}
-use mathlib.Core.Bool.{Bool, true, false, cond}
+-- The reply has the places that the table of kinds says, two characters a byte, after a no as after a yes; and every entry of it is
+-- a byte. Assumes nothing.
+use mathlib.Core.Path.{_≡_, refl, ap, _∙_}
 use mathlib.Core.List.{List, _++_}
-use Prim.Native.Nat.{ℕ, _+_, _*_, _≤_, _<_}
-use native.Mathlib.Omega.{arith}
-use lib.Dec.{eqb, leb}
+use Prim.Native.Nat.{ℕ, _+_, _*_}
 use lib.ListN.{length, length-append}
 use lib.Ieee.{Float}
-use borrow.Author.Tests.{ne-eqb, leb-false, le-leb}
 use Rattle.profile.specs.declared.Profile.{Profile}
 use Rattle.profile.specs.declared.Checked.{Checked}
 use Rattle.profile.specs.Boundary.{defaultOf, boundaryOf}
+use Rattle.step2_solver.specs.declared.Shape.{Shape}
+use Rattle.step2_solver.specs.New.{solverOf, limitsOf}
+use Rattle.position_third_step2.proofs.Keeps.{Lengths, check-keeps, shape-keeps}
+use Rattle.line_kinds.specs.declared.Asks.{Asks}
+use Rattle.line_kinds.specs.declared.Asks.the-variants.{NoKind, OfCheck, OfShape, OfQuartics}
+use Rattle.line_kinds.specs.Kinds.{placesOf}
 use Rattle.line_frame.specs.Frame.{Frame}
-use Rattle.line_frame.specs.Numbers.{checkNumbersOf, shapeNumbersOf, firstAnswerOf, secondAnswerOf}
+use Rattle.line_frame.specs.Numbers.{checkNumbersOf, moveOf, firstAnswerOf, secondAnswerOf}
+use Rattle.line_questions.specs.Questions.{quarticsAt}
 use Rattle.line_reply.specs.Reply.{numbersBytes, headOf, rowsOf, replyBytesOf, quarticBytesOf}
 use Rattle.line_reply.proofs.Rows.{length-numbers}
-use Rattle.lines.specs.CheckLine.{checkLineOf}
-use Rattle.line_questions.specs.Quartics.{solverOf}
-use Rattle.lines.specs.ShapeLine.{shapeAt, startOf, shapeLineOf}
+use Rattle.lines.specs.CheckLine.{checkedOf, checkLineOf}
+use Rattle.lines.specs.ShapeLine.{startOf, shapeLineOf}
 use Rattle.lines.specs.QuarticLine.{quarticLineOf}
-use Rattle.line_questions.specs.Kinds.{replyPlaces}
 use Rattle.lines.specs.Answer.{replyOf}
-use Rattle.line_questions.proofs.KindRows.{place-rows}
-use Rattle.line_places.proofs.Lengths.{Lengths, check-keeps, shape-keeps}
 use Rattle.line_places.proofs.Bytes.{Bytes, reply-bytes, quartics-bytes}
 
--- ---- kinds 00 to 05: the record that a line starts from, and what `check` or a shape leaves of it
+-- ---- a record: the one that a line starts from, and what `check` or a shape leaves of it
 pub fresh-lengths : (p0 v0 a0 pf vf af : Float) → Lengths (boundaryOf p0 v0 a0 pf vf af defaultOf)
 unfolding boundaryOf
-fresh-lengths p0 v0 a0 pf vf af = record { seven-t = refl; seven-t-sum = refl; seven-j = refl; eight-a = refl; eight-v = refl; eight-p = refl }
+fresh-lengths p0 v0 a0 pf vf af =
+    record { seven-t = refl; seven-t-sum = refl; seven-j = refl; eight-a = refl; eight-v = refl; eight-p = refl }
 
 check-lengths : (at : Frame) → Lengths (checkLineOf at .profile)
-unfolding checkLineOf checkNumbersOf
+unfolding checkedOf checkNumbersOf
 check-lengths at =
     let h = fresh-lengths _ _ _ _ _ _ in
-    check-keeps _ _ _ _ _ _ _ _ _ (record { seven-t = refl; seven-t-sum = h .seven-t-sum; seven-j = h .seven-j; eight-a = h .eight-a; eight-v = h .eight-v; eight-p = h .eight-p }) .lengths
+    check-keeps _ _ _ _ _ _ _ _ _
+    (record {
+      seven-t = refl;
+      seven-t-sum = h .seven-t-sum;
+      seven-j = h .seven-j;
+      eight-a = h .eight-a;
+      eight-v = h .eight-v;
+      eight-p = h .eight-p;
+    })
+    .lengths
 
-shape-lengths : (at : Frame) → Lengths (shapeLineOf at .profile)
+shape-lengths : (shape : Shape) (at : Frame) → Lengths (shapeLineOf shape at .profile)
 unfolding shapeLineOf
-shape-lengths at =
-    let x = shapeNumbersOf at in
-    shape-keeps (shapeAt (at 0)) (solverOf x) (firstAnswerOf at) (secondAnswerOf at) (x .«v_max») (x .«v_min») (x .«a_max») (x .«a_min») (x .«j_max») (startOf x) (fresh-lengths _ _ _ _ _ _) .lengths
+shape-lengths shape at =
+    let x = moveOf at in
+    shape-keeps shape (solverOf x) (limitsOf x) (quarticsAt shape at) (firstAnswerOf at) (secondAnswerOf at) (startOf x)
+    (fresh-lengths _ _ _ _ _ _)
+    .lengths
 
 -- ---- its bytes: four in the head, and eight for each number
-six : (t s j a v p : List ℕ) → length (t ++ s ++ j ++ a ++ v ++ p) ≡ length t + length s + length j + length a + length v + length p
+six : (t s j a v p : List ℕ)
+    → length (t ++ s ++ j ++ a ++ v ++ p) ≡ length t + length s + length j + length a + length v + length p
 six t s j a v p = simp length-append
 
 rows-length : (q : Profile) → Lengths q → length (rowsOf (q .t) (q .«t_sum») (q .j) (q .a) (q .v) (q .p)) ≡ 360
 unfolding rowsOf
 rows-length q h =
-    six (numbersBytes (q .t)) (numbersBytes (q .«t_sum»)) (numbersBytes (q .j)) (numbersBytes (q .a)) (numbersBytes (q .v)) (numbersBytes (q .p))
+    six (numbersBytes (q .t)) (numbersBytes (q .«t_sum»)) (numbersBytes (q .j)) (numbersBytes (q .a)) (numbersBytes (q .v))
+    (numbersBytes (q .p))
     ∙ simp (length-numbers, h .seven-t, h .seven-t-sum, h .seven-j, h .eight-a, h .eight-v, h .eight-p)
 
 reply-length : (c : Checked) → Lengths (c .profile) → length (replyBytesOf c) ≡ 364
 unfolding replyBytesOf headOf
 reply-length c h = rw (rows-length (c .profile) h)
 
--- ---- kinds 06 and 07: two quartics, a need and seven numbers each
-quartics-length : (at : Frame) → length (quarticLineOf at) ≡ 114
+-- ---- two quartics: a need and seven numbers each
+quartics-length : (shape : Shape) (at : Frame) → length (quarticLineOf shape at) ≡ 114
 unfolding quarticLineOf quarticBytesOf
-quartics-length at = refl
+quartics-length shape at = refl
 
--- ---- the reply by its kind
-above : (n : ℕ) → 5 < n → n ≡ 0 → ⊥
-above n l e = omega arith
-
-module _ (n : ℕ) (x y z : List ℕ) (hx : length x ≡ 364) (hy : length y ≡ 364) (hz : length z ≡ 114) where
-  either : (b : Bool) → length (cond b x y) ≡ 364
-  either true = hx
-  either false = hy
-
-  by-kind : n ≤ 7 → 2 * length (cond (eqb n 0x00) x (cond (leb n 0x05) y z)) ≡ replyPlaces n
-  by-kind l = by (leb n 5) refl
-    where
-      by : (b : Bool) → leb n 5 ≡ b → 2 * length (cond (eqb n 0x00) x (cond (leb n 0x05) y z)) ≡ replyPlaces n
-      by true e = rw (place-rows n, e, either (eqb n 0))
-      by false e = rw (place-rows n, e, ne-eqb n 0 (above n (leb-false n 5 e)), le-leb n 7 l, hz)
-
-pub reply-of-length : (at : Frame) → at 0 ≤ 7 → 2 * length (replyOf at) ≡ replyPlaces (at 0)
+-- ---- the reply, by what is asked
+pub reply-of-length : (asks : Asks) (at : Frame) → 2 * length (replyOf asks at) ≡ placesOf asks
 unfolding replyOf
-reply-of-length at l =
-    by-kind (at 0) (replyBytesOf (checkLineOf at)) (replyBytesOf (shapeLineOf at)) (quarticLineOf at)
-    (reply-length (checkLineOf at) (check-lengths at)) (reply-length (shapeLineOf at) (shape-lengths at)) (quartics-length at) l
+reply-of-length NoKind at = refl
+reply-of-length OfCheck at = ap (λ (n : ℕ). 2 * n) (reply-length (checkLineOf at) (check-lengths at))
+reply-of-length (OfShape shape) at = ap (λ (n : ℕ). 2 * n) (reply-length (shapeLineOf shape at) (shape-lengths shape at))
+reply-of-length (OfQuartics shape) at = ap (λ (n : ℕ). 2 * n) (quartics-length shape at)
 
-pub reply-of-bytes : (at : Frame) → Bytes (replyOf at)
+pub reply-of-bytes : (asks : Asks) (at : Frame) → Bytes (replyOf asks at)
 unfolding replyOf
-reply-of-bytes at = by (eqb (at 0) 0x00) (leb (at 0) 0x05)
-  where
-    by : (b c : Bool) → Bytes (cond b (replyBytesOf (checkLineOf at)) (cond c (replyBytesOf (shapeLineOf at)) (quarticLineOf at)))
-    by true c = reply-bytes (checkLineOf at)
-    by false true = reply-bytes (shapeLineOf at)
-    by false false = quartics-bytes at
+reply-of-bytes NoKind at = tt
+reply-of-bytes OfCheck at = reply-bytes (checkLineOf at)
+reply-of-bytes (OfShape shape) at = reply-bytes (shapeLineOf shape at)
+reply-of-bytes (OfQuartics shape) at = quartics-bytes shape at

@@ -12,14 +12,21 @@ fn step(a: u64, h: u64) -> u64
     (h + a / h) / 2
 }
 
-// The whole part of the root of a. With a as z * 2^52 the first guess is (z / 3 + 0.7) * 2^26, which
-// is within 4 parts in 100. So three steps leave less than one, and the loop is for what the
-// divisions cut off.
+// With a as z * 2^52, a first guess of second degree: (0.547 + 0.492 z - z^2 / 32) * 2^26, within 9 parts in 1000 of the root.
+fn guess(a: u64) -> u64
+    requires { ⌜ Radicand a ⌝ }
+    ensures { λ r. ⌜ Guess r ⌝ }
+{
+    let z = a / 0x400_0000;
+    z * (1_056_700_000 - z) / 0x8000_0000 + 36_700_000
+}
+
+// The whole part of the root of a. Two steps leave less than one, and the loop is for what the divisions cut off.
 fn root27(a: u64) -> u64
     requires { ⌜ Radicand a ⌝ }
     ensures { λ r. ⌜ IsRoot a r ⌝ }
 {
-    let mut h = step(a, step(a, step(a, a / 0xc00_0000 + 47_000_000)));
+    let mut h = step(a, step(a, guess(a)));
     while a < h * h {
         h = step(a, h);
     }
