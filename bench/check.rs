@@ -5,52 +5,11 @@
 mod timing;
 
 use oracle::check::{LABELS, SIGNS};
+use oracle::kinds::{Asks, KINDS};
 use oracle::{digits, frame};
 use rsruckig::profile::Profile;
 use std::hint::black_box;
 use std::io::{stdin, BufRead};
-
-extern "C" {
-    fn bench_check_in_place(
-        t: &[f64; 7],
-        t_sum: &mut [f64; 7],
-        j: &mut [f64; 7],
-        a: &mut [f64; 8],
-        v: &mut [f64; 8],
-        p: &mut [f64; 8],
-        pf: f64,
-        vf: f64,
-        af: f64,
-        signs: u8,
-        label: u8,
-        set_limits: bool,
-        jf: f64,
-        v_max: f64,
-        v_min: f64,
-        a_max: f64,
-        a_min: f64,
-    ) -> u32;
-
-    fn bench_check_by_value(
-        t: &[f64; 7],
-        t_sum: &mut [f64; 7],
-        j: &mut [f64; 7],
-        a: &mut [f64; 8],
-        v: &mut [f64; 8],
-        p: &mut [f64; 8],
-        pf: f64,
-        vf: f64,
-        af: f64,
-        signs: u8,
-        label: u8,
-        set_limits: bool,
-        jf: f64,
-        v_max: f64,
-        v_min: f64,
-        a_max: f64,
-        a_min: f64,
-    ) -> u32;
-}
 
 /// So few cases are learnt by the branch predictor, which is shown beside all of them.
 const FEW: usize = 1000;
@@ -100,7 +59,7 @@ fn read(line: &[u8]) -> Case {
     let mut bytes = [0; frame::LONGEST];
     assert!(line.len() == 2 * frame::LONGEST && digits::read(line, &mut bytes), "no kind 00 line");
     let [kind, signs, label, set_limits, ..] = bytes;
-    assert_eq!(kind, frame::CHECK);
+    assert_eq!(KINDS[kind as usize].asks, Asks::Check);
     let [p0, v0, a0, pf, vf, af, jf, v_max, v_min, a_max, a_min] =
         frame::numbers(&bytes, frame::CHECK_NUMBERS);
     let mut profile = Profile::default();
@@ -136,36 +95,31 @@ fn by_rust(q: &Asked, profile: &mut Profile) -> bool {
     )
 }
 
+/// The library's two ways take the same.
 macro_rules! by_library {
-    ($name:ident, $check:ident) => {
-        #[inline(always)]
+    ($($name:ident, $check:ident;)*) => {
+        extern "C" {
+            $(fn $check(
+                t: &[f64; 7], t_sum: &mut [f64; 7], j: &mut [f64; 7],
+                a: &mut [f64; 8], v: &mut [f64; 8], p: &mut [f64; 8], pf: f64, vf: f64, af: f64,
+                signs: u8, label: u8, set_limits: bool, jf: f64, v_max: f64, v_min: f64, a_max: f64, a_min: f64,
+            ) -> u32;)*
+        }
+        $(#[inline(always)]
         fn $name(q: &Asked, r: &mut Record) -> u32 {
             unsafe {
                 $check(
-                    &r.t,
-                    &mut r.t_sum,
-                    &mut r.j,
-                    &mut r.a,
-                    &mut r.v,
-                    &mut r.p,
-                    r.pf,
-                    r.vf,
-                    r.af,
-                    q.signs,
-                    q.label,
-                    q.set_limits,
-                    q.jf,
-                    q.v_max,
-                    q.v_min,
-                    q.a_max,
-                    q.a_min,
+                    &r.t, &mut r.t_sum, &mut r.j, &mut r.a, &mut r.v, &mut r.p, r.pf, r.vf, r.af,
+                    q.signs, q.label, q.set_limits, q.jf, q.v_max, q.v_min, q.a_max, q.a_min,
                 )
             }
-        }
+        })*
     };
 }
-by_library!(in_place, bench_check_in_place);
-by_library!(by_value, bench_check_by_value);
+by_library! {
+    in_place, bench_check_in_place;
+    by_value, bench_check_by_value;
+}
 
 /// Verdict, direction, signs and label in one number, as the library answers them.
 fn number(yes: bool, profile: &Profile) -> u32 {
@@ -226,7 +180,9 @@ fn both(cases: &[Case]) {
 fn main() {
     let lines = stdin().lock().lines();
     let cases: Vec<_> = lines.map(|line| read(line.expect("standard input").as_bytes())).collect();
-    cases.iter().for_each(|case| drop(verdict(case)));
+    for case in &cases {
+        verdict(case);
+    }
     println!("{} records equal the Rust's", cases.len());
     if cases.len() > FEW {
         both(&cases[..FEW]);

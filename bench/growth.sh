@@ -3,20 +3,16 @@
 #
 #   bench/growth.sh SEED
 #
-# Inputs of 1,000 to 10,000,000 lines: the generator's lines of all kinds, empty lines, lines with a wrong character, and one line
-# without end. Prints the bytes read and written, the time, nanoseconds a byte less the program's start, and the largest memory.
-# It needs GNU time. ORACLE and PROGRAM name others than target/oracle and target/bin/line_program.
+# Inputs of 1,000 to 10,000,000 lines: the generator's lines of all kinds, empty lines, lines with a wrong character,
+# and one line without end. Prints the bytes read and written, the time, nanoseconds a byte less the program's start,
+# and the largest memory.
+# It needs GNU time.
 set -eu
 
-here=$(cd "$(dirname "$0")" && pwd)
-root=$(dirname "$here")
-oracle=${ORACLE:-$root/target/oracle}
-program=${PROGRAM:-$root/target/bin/line_program}
-seed=$1
-work=$(mktemp -d)
-trap 'rm -rf "$work"' EXIT
-
-"$oracle/generate" "$seed" 100000 > "$work/mixed" 2> /dev/null || true
+. "$(dirname "$0")/begin.sh"
+need_oracle
+generate "$1" 100000
+mv "$work/lines" "$work/mixed"
 line=$(printf '0%.0s' $(seq 296))
 
 # COUNT lines of a sort
@@ -43,25 +39,23 @@ lines() {
 fastest() {
     best=
     for _ in 1 2 3 4 5; do
-        start=$(date +%s%N)
-        "$program" < "$work/in" > /dev/null
-        now=$((($(date +%s%N) - start) / 1000))
-        [ -n "$best" ] && [ "$best" -le "$now" ] || best=$now
+        best=$(least "$best" "$(turn "$program")")
     done
-    echo "$best"
+    echo $((best / 1000))
 }
 
-: > "$work/in"
-start=$(fastest)
-echo "no input: $start microseconds"
+: > "$work/lines"
+alone=$(fastest)
+echo "no input: $alone microseconds"
 echo "lines          count         read      written  microseconds  ns/byte  kilobytes"
 for sort in mixed empty wrong endless; do
     for count in 1000 10000 100000 1000000 10000000; do
-        lines $sort $count > "$work/in"
+        lines $sort $count > "$work/lines"
         # The output is counted in a run of its own, so that nothing waits for the counter.
-        written=$("$program" < "$work/in" | wc -c)
-        /usr/bin/time -f '%M' -o "$work/memory" "$program" < "$work/in" > /dev/null
-        awk -v s=$sort -v n=$count -v r="$(wc -c < "$work/in")" -v w="$written" -v t="$(fastest)" -v o="$start" \
-            '{ printf "%-10s %9d %12.0f %12.0f %13.0f %8.3f %10d\n", s, n, r, w, t, (t - o) * 1e3 / (r + w), $1 }' "$work/memory"
+        written=$("$program" < "$work/lines" | wc -c)
+        /usr/bin/time -f '%M' -o "$work/memory" "$program" < "$work/lines" > /dev/null
+        awk -v s=$sort -v n=$count -v r="$(wc -c < "$work/lines")" -v w="$written" -v t="$(fastest)" -v o="$alone" \
+            '{ printf "%-10s %9d %12.0f %12.0f %13.0f %8.3f %10d\n", s, n, r, w, t, (t - o) * 1e3 / (r + w), $1 }' \
+            "$work/memory"
     done
 done

@@ -12,32 +12,34 @@ extern "C" {
 /* The longest line that passes question 1, in characters. */
 #define SIPTKVARO_LONGEST_LINE 296
 
-/* The places of a reply: to kinds 00 to 05, and to kinds 06 and 07. */
-#define SIPTKVARO_RECORD_PLACES 728
-#define SIPTKVARO_QUARTICS_PLACES 228
+/* The longest reply, in places: lent as many, no line is answered with 8. */
+#define SIPTKVARO_LONGEST_REPLY 728
 
 /*
  * Answers one line: `request` holds its characters, without the line feed, and
  * `reply` is lent for the answer.
  *
- * 0: the line is accepted, a no being a reply as well. The first 728 places of
- * `reply`, or the first 228 for kinds 06 and 07, hold the reply in digits 0-9 and
- * A-F. The places after them are as they were. There is no line feed and no zero
- * at the end.
+ * 0: the line is accepted, a no being a reply as well. The first `*filled` places
+ * of `reply` hold the reply in digits 0-9 and A-F. The places after them are as
+ * they were. There is no line feed and no zero at the end.
  *
  * 1 to 8: the number of the first question of document 01 with a no; `reply` is
- * as it was. 8 says that too few places are lent: 728 are enough for every line.
+ * as it was, and `*filled` is 0. 8 says that too few places are lent.
  *
  * Any characters and any two lengths are answered. What the host sees to:
  * - `request` points to `request_length` characters that nothing writes during
- *   the call, and `reply` to `reply_length` places that nothing else reads or
- *   writes during the call, so the two do not overlap;
- * - neither pointer is null, not even where its length is 0;
+ *   the call, and `reply` to `reply_length` places and `filled` to a count that
+ *   nothing else reads or writes during the call, so no two of them overlap;
+ * - no pointer is null, not even where its length is 0;
  * - neither length is above PTRDIFF_MAX.
  *
  * Nothing is kept from one call to the next and nothing is allocated, so threads
  * may call it at the same time.
  */
+uint32_t answer_counted(const uint8_t *request, size_t request_length,
+                        uint8_t *reply, size_t reply_length, size_t *filled);
+
+/* The same number and the same places without the count, for a host that has it from the line's kind. */
 uint32_t answer_line(const uint8_t *request, size_t request_length,
                      uint8_t *reply, size_t reply_length);
 

@@ -1,9 +1,10 @@
 //! The same lines, and the same lent places, to both sides.
 
-use crate::port;
+use crate::{port, rust};
+use cases::any_line::sometimes_broken;
+use cases::kinds::Kind;
 use cases::line::Line;
 use cases::random::Random;
-use cases::{broken_line, check_line, shape_line};
 use std::time::{Duration, Instant};
 
 const BATCH: u64 = 1_000_000;
@@ -12,7 +13,7 @@ const SHOWN: u64 = 10;
 /// More than the longest reply, so that places past it are compared too.
 const MOST: usize = 760;
 
-pub fn count(seed: u64, millions: u64, kinds: &[u8]) -> u64 {
+pub fn count(seed: u64, millions: u64, kinds: &[&Kind]) -> u64 {
     let mut differences = 0;
     let start = Instant::now();
     let mut counts = [0u64; 9];
@@ -36,7 +37,7 @@ pub fn count(seed: u64, millions: u64, kinds: &[u8]) -> u64 {
 
 fn batch(
     seed: u64,
-    kinds: &[u8],
+    kinds: &[&Kind],
     differences: &mut u64,
     counts: &mut [u64; 9],
     sides: &mut [Duration; 2],
@@ -45,42 +46,43 @@ fn batch(
     const PART: u64 = 4_000;
     let mut random = Random::new(seed);
     let mut lines: Vec<(Line, usize, u8)> = vec![(Line::default(), 0, 0); PART as usize];
-    let mut rust = vec![[0; MOST]; PART as usize];
-    let mut port = rust.clone();
-    let mut numbers = vec![[0; 2]; PART as usize];
+    let mut by_rust = vec![[0; MOST]; PART as usize];
+    let mut by_port = by_rust.clone();
+    let mut answers = vec![[(0, 0); 2]; PART as usize];
     let before = *differences;
     for part in 0..BATCH / PART {
         for (line, places, mark) in &mut lines {
-            any_line(&mut random, kinds, line);
+            let kind = random.pick(kinds);
+            sometimes_broken(&mut random, kind, 8, line);
             *places = any_places(&mut random);
             *mark = random.bits() as u8;
         }
         for (index, (_, _, mark)) in lines.iter().enumerate() {
-            rust[index].fill(*mark);
-            port[index].fill(*mark);
+            by_rust[index].fill(*mark);
+            by_port[index].fill(*mark);
         }
         let start = Instant::now();
         for (index, (line, places, _)) in lines.iter().enumerate() {
-            numbers[index][0] = plain::answer_line(&line.characters, &mut rust[index][..*places]);
+            answers[index][0] = rust::answer(&line.characters, &mut by_rust[index][..*places]);
         }
         sides[0] += start.elapsed();
         let start = Instant::now();
         for (index, (line, places, _)) in lines.iter().enumerate() {
-            numbers[index][1] = port::answer_line(&line.characters, &mut port[index][..*places]);
+            answers[index][1] = port::answer(&line.characters, &mut by_port[index][..*places]);
         }
         sides[1] += start.elapsed();
         for (index, (line, places, _)) in lines.iter().enumerate() {
-            let [wanted, got] = numbers[index];
-            counts[wanted as usize] += 1;
-            if wanted == got && rust[index] == port[index] {
+            let [wanted, got] = answers[index];
+            counts[wanted.0 as usize] += 1;
+            if wanted == got && by_rust[index] == by_port[index] {
                 continue;
             }
             *differences += 1;
             if *differences <= SHOWN {
                 println!(
-                    "seed {seed}, line {}, {places} places: Rust {wanted}, port {got}{}",
+                    "seed {seed}, line {}, {places} places: Rust {wanted:?}, port {got:?}{}",
                     part * PART + index as u64,
-                    first(&rust[index], &port[index])
+                    first(&by_rust[index], &by_port[index])
                 );
                 println!("{}", String::from_utf8_lossy(&line.characters));
             }
@@ -96,28 +98,12 @@ fn first(rust: &[u8], port: &[u8]) -> String {
     }
 }
 
-/// Mostly 728, and now and then any number of places, so that question 8 is asked.
+/// Mostly enough, and now and then any number of places, so that question 8 is asked.
 fn any_places(random: &mut Random) -> usize {
     match random.below(8) {
         0 => random.below(MOST as u64 + 1) as usize,
         1 => 226 + random.below(4) as usize,
         2 => 726 + random.below(4) as usize,
-        _ => 728,
-    }
-}
-
-pub fn any_line(random: &mut Random, kinds: &[u8], line: &mut Line) {
-    let kind = random.pick(kinds);
-    accepted_line(random, kind, line);
-    if random.once_in(8) {
-        broken_line::spoil(random, kind, line);
-    }
-}
-
-pub fn accepted_line(random: &mut Random, kind: u8, line: &mut Line) {
-    if kind == 0 {
-        check_line::write(random, line);
-    } else {
-        shape_line::write(random, kind, line);
+        _ => port::LONGEST_REPLY,
     }
 }

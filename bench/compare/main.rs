@@ -8,22 +8,22 @@
 
 mod differences;
 mod port;
+mod rust;
 mod speed;
 
+use cases::kinds::{Kind, KINDS};
 use std::{env, process};
-
-const ALL: &str = "00,01,02,03,04,05,06,07";
 
 fn main() {
     let words: Vec<String> = env::args().skip(1).collect();
     let words: Vec<&str> = words.iter().map(String::as_str).collect();
     let differences = match words.as_slice() {
-        ["lines", seed, millions] => differences::count(number(seed), number(millions), &kinds(ALL)),
-        ["lines", seed, millions, list] => {
+        ["lines", seed, millions, ref list @ ..] if list.len() < 2 => {
             differences::count(number(seed), number(millions), &kinds(list))
         }
-        ["speed", seed] => speed::print(number(seed), &kinds(ALL)),
-        ["speed", seed, list] => speed::print(number(seed), &kinds(list)),
+        ["speed", seed, ref list @ ..] if list.len() < 2 => {
+            speed::print(number(seed), &kinds(list))
+        }
         _ => {
             eprintln!("use: compare lines SEED MILLIONS [KINDS] | compare speed SEED [KINDS]");
             process::exit(2);
@@ -36,6 +36,10 @@ fn number(word: &str) -> u64 {
     word.parse().expect("SEED and MILLIONS are decimal numbers")
 }
 
-fn kinds(list: &str) -> Vec<u8> {
-    list.split(',').map(|kind| u8::from_str_radix(kind, 16).expect("a kind is hexadecimal")).collect()
+fn kinds(list: &[&str]) -> Vec<&'static Kind> {
+    let Some(list) = list.first() else {
+        return KINDS.iter().collect();
+    };
+    let number = |word| usize::from_str_radix(word, 16).expect("a kind is hexadecimal");
+    list.split(',').map(|word| KINDS.get(number(word)).expect("a kind is 00 to 07")).collect()
 }

@@ -1,12 +1,14 @@
-//! The port's line entry, out of the static library.
+//! The port's line entry, out of the static library, as a host in Rust has it.
 
-#[link(name = "lines", kind = "static")]
-extern "C" {
-    #[link_name = "answer_line"]
-    fn entry(request: *const u8, request_length: usize, reply: *mut u8, reply_length: usize) -> u32;
-}
+#[path = "../../hosts/rust/siptkvaro.rs"]
+mod siptkvaro;
 
-pub fn answer_line(request: &[u8], reply: &mut [u8]) -> u32 {
-    // SAFETY: the entry has no `requires`; the borrows keep both alive and apart.
-    unsafe { entry(request.as_ptr(), request.len(), reply.as_mut_ptr(), reply.len()) }
+pub use siptkvaro::LONGEST_REPLY;
+
+/// The number, and how many places the reply fills.
+pub fn answer(request: &[u8], reply: &mut [u8]) -> (u32, usize) {
+    match siptkvaro::answer(request, reply) {
+        siptkvaro::Answer::Reply(reply) => (0, reply.len()),
+        siptkvaro::Answer::Refused(number) => (number, 0),
+    }
 }

@@ -4,20 +4,11 @@
 # without a line feed, and a line of a gigabyte. Prints the time of each.
 #
 #   bench/compare/program.sh SEED COUNT [kind KK]
-#
-# ORACLE and PROGRAM name others than target/oracle and target/bin/line_program.
 set -eu
 
-here=$(cd "$(dirname "$0")" && pwd)
-root=$(dirname "$(dirname "$here")")
-oracle=${ORACLE:-$root/target/oracle}
-program=${PROGRAM:-$root/target/bin/line_program}
-work=$(mktemp -d)
-trap 'rm -rf "$work"' EXIT
-
-# The generator says by its status whether its coverage is complete, which takes a million lines; here any lines will do.
-"$oracle/generate" "$@" > "$work/lines" 2> /dev/null || true
-[ -s "$work/lines" ]
+. "$(dirname "$0")/../begin.sh"
+need_oracle
+generate "$@"
 echo "oracle:"
 time -p "$oracle/oracle" < "$work/lines" > "$work/wanted"
 echo "line program:"

@@ -11,22 +11,11 @@
 # 00,01,05. It ends with status 1 if there is a difference.
 #
 # It needs the oracle (oracle/build.sh) and the static library (rt staticlib lines),
-# and makes what is missing. ORACLE and LIBRARY name others than target/oracle and
-# target/staticlib/liblines.a.
+# and makes what is missing.
 set -eu
 
-here=$(cd "$(dirname "$0")" && pwd)
-root=$(dirname "$(dirname "$here")")
-oracle=${ORACLE:-$root/target/oracle}
-library=${LIBRARY:-$root/target/staticlib/liblines.a}
-out=$root/target/bench
-
-[ -f "$oracle/libcases.rlib" ] || "$root/oracle/build.sh"
-[ -f "$library" ] || (cd "$root" && rt staticlib lines) >&2
-mkdir -p "$out"
-rustc --edition 2021 -O -C codegen-units=1 --crate-name compare \
-    -L dependency="$oracle" -L dependency="$oracle/traced" -L dependency="$oracle/plain" \
-    -L native="$(dirname "$library")" \
-    --extern cases="$oracle/libcases.rlib" --extern plain="$oracle/plain/liboracle.rlib" \
-    "$here/main.rs" -o "$out/compare"
-exec "$out/compare" "$@"
+. "$(dirname "$0")/../begin.sh"
+need_oracle
+[ -f "$library" ] || staticlib lines
+compile compare main.rs --extern cases="$oracle/libcases.rlib" --extern plain="$oracle/plain/liboracle.rlib"
+"$out/compare" "$@"

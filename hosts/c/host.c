@@ -2,7 +2,7 @@
  * A host in C: answers each line of standard input on standard output.
  *
  *   host          a reply, or the refusal in two decimal digits, for each line
- *   host guard    the same, with 728 places lent in the middle of a larger array,
+ *   host guard    the same, with the places lent in the middle of a larger array,
  *                 and the bytes around them checked after each call
  */
 #include <stdio.h>
@@ -10,7 +10,7 @@
 #include <string.h>
 #include "siptkvaro.h"
 
-enum { GUARD = 64, LENT = SIPTKVARO_RECORD_PLACES };
+enum { GUARD = 64, LENT = SIPTKVARO_LONGEST_REPLY };
 
 static uint8_t lent[GUARD + LENT + GUARD];
 
@@ -19,12 +19,6 @@ static int all_are(const uint8_t *bytes, size_t count, uint8_t wanted) {
         if (bytes[i] != wanted)
             return 0;
     return 1;
-}
-
-/* Of an accepted line: kinds 06 and 07 have the shorter reply. */
-static size_t reply_places(const uint8_t *line) {
-    return line[1] == '6' || line[1] == '7' ? SIPTKVARO_QUARTICS_PLACES
-                                            : SIPTKVARO_RECORD_PLACES;
 }
 
 static void check_guards(size_t filled, uint8_t mark, unsigned long number) {
@@ -47,8 +41,8 @@ int main(int count, char **words) {
             length--;
         if (guarded)
             memset(lent, mark, sizeof lent);
-        uint32_t refusal = answer_line((const uint8_t *)line, (size_t)length, reply, LENT);
-        size_t filled = refusal == 0 ? reply_places((const uint8_t *)line) : 0;
+        size_t filled;
+        uint32_t refusal = answer_counted((const uint8_t *)line, (size_t)length, reply, LENT, &filled);
         if (guarded)
             check_guards(filled, mark, number);
         if (refusal == 0)

@@ -1,6 +1,7 @@
 #!/bin/sh
-# Calls the entry with all lent sizes around 0, 228 and 728, under the address and
-# undefined-behaviour sanitizers and, where it is installed, under valgrind.
+# Calls the entry with all lent sizes around 0, the reply's and the longest reply's,
+# under the address and undefined-behaviour sanitizers and, where it is installed,
+# under valgrind.
 #
 #   hosts/c/sanitize.sh [LINES]
 #

@@ -5,7 +5,7 @@
 
 mod siptkvaro;
 
-use siptkvaro::{answer, Answer, RECORD_PLACES};
+use siptkvaro::{answer, Answer, LONGEST_REPLY};
 use std::io::{self, BufRead, BufWriter, Write};
 
 const GUARD: usize = 64;
@@ -15,7 +15,7 @@ fn main() -> io::Result<()> {
     let mut input = io::stdin().lock();
     let mut output = BufWriter::new(io::stdout().lock());
     let mut line = Vec::new();
-    let mut lent = [0; RECORD_PLACES + GUARD];
+    let mut lent = [0; LONGEST_REPLY + GUARD];
     let mut number = 0u64;
     while input.read_until(b'\n', &mut line)? > 0 {
         number += 1;

@@ -1,9 +1,8 @@
 //! The line entry of Siptkvaro behind a safe function. Link liblines.a
 //! (`rt staticlib lines`); `include/siptkvaro.h` has the contract in words.
 
-/// The places of a reply: to kinds 00 to 05, and to kinds 06 and 07.
-pub const RECORD_PLACES: usize = 728;
-pub const QUARTICS_PLACES: usize = 228;
+/// The longest reply, in places: lent as many, no line is refused by question 8.
+pub const LONGEST_REPLY: usize = 728;
 
 pub enum Answer<'a> {
     /// The reply's characters; the lent places after them are as they were.
@@ -15,31 +14,29 @@ pub enum Answer<'a> {
 /// Answers one line, given without its line feed.
 pub fn answer<'a>(request: &[u8], reply: &'a mut [u8]) -> Answer<'a> {
     match call(request, reply) {
-        0 => Answer::Reply(&reply[..places(request)]),
-        number => Answer::Refused(number),
+        (0, filled) => Answer::Reply(&reply[..filled]),
+        (number, _) => Answer::Refused(number),
     }
 }
 
-/// Of an accepted line: kinds 06 and 07 have the shorter reply.
-fn places(request: &[u8]) -> usize {
-    if matches!(request[1], b'6' | b'7') {
-        QUARTICS_PLACES
-    } else {
-        RECORD_PLACES
-    }
-}
-
-fn call(request: &[u8], reply: &mut [u8]) -> u32 {
+/// The number, and how many places the reply fills.
+fn call(request: &[u8], reply: &mut [u8]) -> (u32, usize) {
     #[link(name = "lines", kind = "static")]
     extern "C" {
-        fn answer_line(
+        fn answer_counted(
             request: *const u8,
             request_length: usize,
             reply: *mut u8,
             reply_length: usize,
+            filled: *mut usize,
         ) -> u32;
     }
+    let (lent, length) = (reply.as_mut_ptr(), reply.len());
+    let mut filled = 0;
     // SAFETY: the entry has no `requires`. It reads the request and writes the
-    // reply within their lengths; the two borrows keep both alive and apart.
-    unsafe { answer_line(request.as_ptr(), request.len(), reply.as_mut_ptr(), reply.len()) }
+    // reply within their lengths, and writes the count; the three borrows keep
+    // all alive and apart.
+    let number =
+        unsafe { answer_counted(request.as_ptr(), request.len(), lent, length, &mut filled) };
+    (number, filled)
 }

@@ -3,10 +3,10 @@
 use crate::motion::forwards;
 use crate::numbers::quarters;
 use crate::random::Random;
-use oracle::frame;
+use oracle::kinds::Shape;
 
 #[derive(Clone, Copy, PartialEq, Debug)]
-pub enum Attempt {
+pub enum Form {
     Acc0Acc1VelUddu,
     Acc0Acc1VelUdud,
     Acc1VelUddu,
@@ -20,56 +20,54 @@ pub enum Attempt {
     Acc0UdduAcc0,
 }
 
-use Attempt::*;
+use Form::*;
+
+/// The shape that makes it, and the signs and the label that it hands to `check`.
+#[derive(Clone, Copy)]
+pub struct Attempt {
+    pub form: Form,
+    pub shape: Shape,
+    pub signs: u8,
+    pub label: u8,
+}
 
 pub const ATTEMPTS: [Attempt; 11] = [
-    Acc0Acc1VelUddu,
-    Acc0Acc1VelUdud,
-    Acc1VelUddu,
-    Acc1VelUdud,
-    Acc0VelUddu,
-    Acc0VelUdud,
-    Acc0Acc1Rest,
-    Acc0Acc1Uddu,
-    Acc0UdudNone,
-    Acc0UdduNone,
-    Acc0UdduAcc0,
+    Attempt { form: Acc0Acc1VelUddu, shape: Shape::Acc0Acc1Vel, signs: 0, label: 0 },
+    Attempt { form: Acc0Acc1VelUdud, shape: Shape::Acc0Acc1Vel, signs: 1, label: 0 },
+    Attempt { form: Acc1VelUddu, shape: Shape::Acc1Vel, signs: 0, label: 6 },
+    Attempt { form: Acc1VelUdud, shape: Shape::Acc1Vel, signs: 1, label: 6 },
+    Attempt { form: Acc0VelUddu, shape: Shape::Acc0Vel, signs: 0, label: 5 },
+    Attempt { form: Acc0VelUdud, shape: Shape::Acc0Vel, signs: 1, label: 5 },
+    Attempt { form: Acc0Acc1Rest, shape: Shape::Acc0Acc1, signs: 0, label: 4 },
+    Attempt { form: Acc0Acc1Uddu, shape: Shape::Acc0Acc1, signs: 0, label: 4 },
+    Attempt { form: Acc0UdudNone, shape: Shape::Acc0, signs: 1, label: 7 },
+    Attempt { form: Acc0UdduNone, shape: Shape::Acc0, signs: 0, label: 7 },
+    Attempt { form: Acc0UdduAcc0, shape: Shape::Acc0, signs: 0, label: 2 },
 ];
 
 impl Attempt {
-    pub fn kind(self) -> u8 {
-        match self {
-            Acc0Acc1VelUddu | Acc0Acc1VelUdud => frame::ACC0_ACC1_VEL,
-            Acc1VelUddu | Acc1VelUdud => frame::ACC1_VEL,
-            Acc0VelUddu | Acc0VelUdud => frame::ACC0_VEL,
-            Acc0Acc1Rest | Acc0Acc1Uddu => frame::ACC0_ACC1,
-            Acc0UdudNone | Acc0UdduNone | Acc0UdduAcc0 => frame::ACC0,
-        }
+    pub fn calls_so(&self, shape: Shape, signs: u8, label: u8) -> bool {
+        (self.shape, self.signs, self.label) == (shape, signs, label)
     }
+}
 
-    /// Which attempt called `check` so, in a line of this kind.
-    pub fn of_check(kind: u8, signs: u8, label: u8, rest: bool) -> Self {
-        match (kind, signs, label) {
-            (frame::ACC0_ACC1_VEL, 0, 0) => Acc0Acc1VelUddu,
-            (frame::ACC0_ACC1_VEL, 1, 0) => Acc0Acc1VelUdud,
-            (frame::ACC1_VEL, 0, 6) => Acc1VelUddu,
-            (frame::ACC1_VEL, 1, 6) => Acc1VelUdud,
-            (frame::ACC0_VEL, 0, 5) => Acc0VelUddu,
-            (frame::ACC0_VEL, 1, 5) => Acc0VelUdud,
-            (frame::ACC0_ACC1, 0, 4) if rest => Acc0Acc1Rest,
-            (frame::ACC0_ACC1, 0, 4) => Acc0Acc1Uddu,
-            (frame::ACC0, 1, 7) => Acc0UdudNone,
-            (frame::ACC0, 0, 7) => Acc0UdduNone,
-            (frame::ACC0, 0, 2) => Acc0UdduAcc0,
-            _ => panic!("kind {kind} calls check with signs {signs}, label {label}"),
-        }
-    }
+/// Which attempt called `check` so. The fourth shape's two call it alike; the one of
+/// the rest formula comes first.
+pub fn index_of_call(shape: Shape, signs: u8, label: u8, rest: bool) -> usize {
+    let so = |attempt: &Attempt| attempt.calls_so(shape, signs, label);
+    let index = if rest { ATTEMPTS.iter().position(so) } else { ATTEMPTS.iter().rposition(so) };
+    index.unwrap_or_else(|| panic!("{shape:?} calls check with signs {signs}, label {label}"))
+}
+
+/// The rest formula is for both end accelerations below EPS.
+pub fn at_rest(numbers: &[f64; 12]) -> bool {
+    numbers[3].abs() < f64::EPSILON && numbers[6].abs() < f64::EPSILON
 }
 
 /// The twelve numbers of a line whose answer should come from `attempt`. The
 /// velocity limits lie at the extreme velocities; the caller gives them room.
 pub fn twelve(random: &mut Random, attempt: Attempt) -> [f64; 12] {
-    let rest = attempt == Acc0Acc1Rest;
+    let rest = attempt.form == Acc0Acc1Rest;
     let a_max = if rest { rest_limit(random) } else { size(random, 4) };
     let a_min = -size(random, 4);
     let j = size(random, 8);
@@ -93,19 +91,17 @@ pub fn twelve(random: &mut Random, attempt: Attempt) -> [f64; 12] {
     let down = within(-af / j, zero_min);
     let up = within(af / j, max_zero);
 
-    let (signs, times) = match attempt {
-        Acc0Acc1VelUddu => (0, [start_max, one, max_zero, three, zero_min, five, min_end]),
-        Acc0Acc1VelUdud => (1, [start_max, one, max_zero, three, max_zero, five, max_end]),
-        Acc1VelUddu => (0, [first, 0.0, second, three, zero_min, five, min_end]),
-        Acc1VelUdud => (1, [first, 0.0, second, three, max_zero, five, max_end]),
-        Acc0VelUddu => (0, [start_max, one, max_zero, three, down, 0.0, down + af / j]),
-        Acc0VelUdud => (1, [start_max, one, max_zero, three, up, 0.0, up - af / j]),
-        Acc0Acc1Rest | Acc0Acc1Uddu => {
-            (0, [start_max, one, max_zero, 0.0, zero_min, five, min_end])
-        }
-        Acc0UdudNone => (1, [start_max, one, max_end + ramp, 0.0, ramp, 0.0, 0.0]),
-        Acc0UdduNone => (0, [start_max, one, ramp, three, 0.0, 0.0, five]),
-        Acc0UdduAcc0 => (0, [start_max, one, ramp, three, five, 0.0, 0.0]),
+    let times = match attempt.form {
+        Acc0Acc1VelUddu => [start_max, one, max_zero, three, zero_min, five, min_end],
+        Acc0Acc1VelUdud => [start_max, one, max_zero, three, max_zero, five, max_end],
+        Acc1VelUddu => [first, 0.0, second, three, zero_min, five, min_end],
+        Acc1VelUdud => [first, 0.0, second, three, max_zero, five, max_end],
+        Acc0VelUddu => [start_max, one, max_zero, three, down, 0.0, down + af / j],
+        Acc0VelUdud => [start_max, one, max_zero, three, up, 0.0, up - af / j],
+        Acc0Acc1Rest | Acc0Acc1Uddu => [start_max, one, max_zero, 0.0, zero_min, five, min_end],
+        Acc0UdudNone => [start_max, one, max_end + ramp, 0.0, ramp, 0.0, 0.0],
+        Acc0UdduNone => [start_max, one, ramp, three, 0.0, 0.0, five],
+        Acc0UdduAcc0 => [start_max, one, ramp, three, five, 0.0, 0.0],
     };
 
     let [p0, v0] = std::array::from_fn(|_| match random.below(3) {
@@ -113,7 +109,7 @@ pub fn twelve(random: &mut Random, attempt: Attempt) -> [f64; 12] {
         1 => quarters(random, 8) * random.sign(),
         _ => random.between(-8.0, 8.0),
     });
-    let motion = forwards(signs, j, &times, [p0, v0, a0]);
+    let motion = forwards(attempt.signs as usize, j, &times, [p0, v0, a0]);
     let [pf, vf, af] = motion.end;
     let tf = motion.duration;
     let (v_max, v_min) = (motion.fastest, motion.slowest);

@@ -6,11 +6,12 @@ use crate::numbers::not_finite;
 use crate::random::Random;
 use oracle::digits::write_byte;
 use oracle::frame;
+use oracle::kinds::{Asks, Kind, KINDS};
 
 const NO_DIGITS: &[u8] = b"abcdefgG@`:/ \r\0\x7F\x80\xFFxZ";
 
 /// Puts one to three faults into an accepted line of the kind given.
-pub fn spoil(random: &mut Random, kind: u8, line: &mut Line) {
+pub fn spoil(random: &mut Random, kind: &Kind, line: &mut Line) {
     if random.once_in(16) {
         return noise(random, line);
     }
@@ -35,13 +36,13 @@ pub fn spoil(random: &mut Random, kind: u8, line: &mut Line) {
 fn noise(random: &mut Random, line: &mut Line) {
     line.clear();
     let digits = random.once_in(2);
-    let length = if digits { 2 * random.pick(&frame::LENGTHS) } else { random.below(400) as usize };
+    let length = if digits { 2 * random.pick(&KINDS).bytes } else { random.below(400) as usize };
     for _ in 0..length {
         let character = if digits { random.pick(b"0123456789ABCDEF") } else { random.bits() as u8 };
         line.characters.push(if character == b'\n' { b'0' } else { character });
     }
     if digits {
-        let kind = random.below(8) as u8;
+        let kind = random.pick(&KINDS).number;
         set_byte(line, 0, kind);
     }
 }
@@ -87,28 +88,26 @@ fn even_length(random: &mut Random, line: &mut Line) {
         0 => line.characters.truncate(2 * random.below(length as u64 / 2 + 1) as usize),
         1 => line.characters.truncate(length.saturating_sub(2)),
         2 => line.characters.extend_from_slice(b"00"),
-        _ => set_byte(line, 0, random.below(8) as u8),
+        _ => set_byte(line, 0, random.pick(&KINDS).number),
     }
 }
 
 /// Question 5.
-fn range(random: &mut Random, kind: u8, line: &mut Line) {
+fn range(random: &mut Random, kind: &Kind, line: &mut Line) {
     let wrong = random.pick(&[2, 3, 4, 7, 8, 9, 0x10, 0x80, 0xFF]);
-    match kind {
-        frame::CHECK => set_byte(line, 1 + random.below(3) as usize, wrong),
-        frame::ACC1_VEL | frame::ACC0_VEL => {
-            let second = random.below(2) as usize;
-            set_byte(line, frame::ANSWERS + second * frame::ANSWER_LENGTH, wrong.max(4));
-        }
-        _ => {}
+    if kind.asks == Asks::Check {
+        set_byte(line, 1 + random.below(3) as usize, wrong);
+    } else if kind.has_answers() {
+        let second = random.below(2) as usize;
+        set_byte(line, frame::ANSWERS + second * frame::ANSWER_LENGTH, wrong.max(4));
     }
 }
 
 /// Question 6; among the first numbers of kind 00 are times, which may hold
 /// anything.
-fn number(random: &mut Random, kind: u8, line: &mut Line) {
+fn number(random: &mut Random, kind: &Kind, line: &mut Line) {
     let (first, count) =
-        if kind == frame::CHECK { (frame::CHECK_TIMES, 18) } else { (frame::NUMBERS, 12) };
+        if kind.asks == Asks::Check { (frame::CHECK_TIMES, 18) } else { (frame::NUMBERS, 12) };
     let at = first + 8 * random.below(count) as usize;
     let bytes = not_finite(random).to_bits().to_be_bytes();
     for (index, byte) in bytes.into_iter().enumerate() {
@@ -117,8 +116,8 @@ fn number(random: &mut Random, kind: u8, line: &mut Line) {
 }
 
 /// Question 7, where the need is not 00.
-fn count(random: &mut Random, kind: u8, line: &mut Line) {
-    if kind == frame::ACC1_VEL || kind == frame::ACC0_VEL {
+fn count(random: &mut Random, kind: &Kind, line: &mut Line) {
+    if kind.has_answers() {
         let second = random.below(2) as usize;
         let at = frame::ANSWERS + second * frame::ANSWER_LENGTH;
         set_byte(line, at, random.pick(&[0, 0, 0, 1, 2, 3]));

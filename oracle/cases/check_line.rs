@@ -4,11 +4,11 @@ use crate::line::Line;
 use crate::numbers::{any_finite, anything, edge, near, not_finite, ordinary, quarters, step};
 use crate::random::Random;
 use oracle::check::{LABELS, SIGNS};
-use oracle::frame;
+use oracle::kinds::Kind;
 use rsruckig::profile::Profile;
 
-/// An accepted line of kind 00.
-pub fn write(random: &mut Random, line: &mut Line) {
+/// An accepted line.
+pub fn write(random: &mut Random, kind: &Kind, line: &mut Line) {
     let signs = random.below(2) as u8;
     let label = random.below(8) as u8;
     let set_limits = random.below(2) as u8;
@@ -24,7 +24,7 @@ pub fn write(random: &mut Random, line: &mut Line) {
         _ => planned(random, signs, label, set_limits == 1),
     };
     line.clear();
-    for byte in [frame::CHECK, signs, label, set_limits] {
+    for byte in [kind.number, signs, label, set_limits] {
         line.byte(byte);
     }
     line.numbers(&times);

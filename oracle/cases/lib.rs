@@ -1,5 +1,6 @@
 //! Lines, quartics and numbers to try, made from a seed.
 
+pub mod any_line;
 pub mod attempt;
 pub mod broken_line;
 pub mod check_line;
@@ -10,3 +11,5 @@ pub mod numbers;
 pub mod quartic;
 pub mod random;
 pub mod shape_line;
+
+pub use oracle::kinds;

@@ -2,7 +2,8 @@
 //! two or three coefficients have to vanish together.
 
 use crate::random::Random;
-use oracle::{frame, quartics, shapes};
+use oracle::kinds::Shape;
+use oracle::{quartics, shapes};
 
 const A0: usize = 3;
 const PF: usize = 4;
@@ -14,9 +15,9 @@ const A_MIN: usize = 10;
 
 /// Moves `numbers` to where one quartic of the shape has d = 0, and c = 0 or
 /// a = b = 0 besides.
-pub fn steer(random: &mut Random, shape: u8, mut numbers: [f64; 12]) -> [f64; 12] {
+pub fn steer(random: &mut Random, shape: Shape, mut numbers: [f64; 12]) -> [f64; 12] {
     let signs = random.below(2) as usize;
-    if shape == frame::ACC1_VEL {
+    if shape == Shape::Acc1Vel {
         if random.once_in(2) {
             // c has the factor a0.
             numbers[A0] = 0.0;
@@ -35,7 +36,7 @@ pub fn steer(random: &mut Random, shape: u8, mut numbers: [f64; 12]) -> [f64; 12
 }
 
 /// The coefficient is linear in the number, up to its rounding.
-fn vanish(numbers: &mut [f64; 12], shape: u8, signs: usize, coefficient: usize, index: usize) {
+fn vanish(numbers: &mut [f64; 12], shape: Shape, signs: usize, coefficient: usize, index: usize) {
     let value = |number: f64| {
         let mut moved = *numbers;
         moved[index] = number;

@@ -6,34 +6,30 @@ use crate::needs;
 use crate::numbers::{any_finite, blur, edge, near, ordinary, quarters};
 use crate::quartic::suited_answer;
 use crate::random::Random;
-use oracle::{frame, quartics, shapes};
+use oracle::kinds::{Kind, Shape};
+use oracle::{quartics, shapes};
 
-/// A line of the kind given, accepted.
-pub fn write(random: &mut Random, kind: u8, line: &mut Line) {
-    let shape = match kind {
-        frame::ACC1_VEL_QUARTICS => frame::ACC1_VEL,
-        frame::ACC0_VEL_QUARTICS => frame::ACC0_VEL,
-        shape => shape,
-    };
+/// An accepted line of the kind, which asks of the shape.
+pub fn write(random: &mut Random, kind: &Kind, shape: Shape, line: &mut Line) {
     let numbers = numbers(random, shape);
     line.clear();
-    line.byte(kind);
+    line.byte(kind.number);
     line.numbers(&numbers);
-    if matches!(kind, frame::ACC1_VEL | frame::ACC0_VEL) {
+    if kind.has_answers() {
         let solver = shapes::solver(&numbers);
-        for polynom in quartics::polynoms(kind, &solver, &numbers) {
+        for polynom in quartics::polynoms(shape, &solver, &numbers) {
             line.answer(&suited_answer(random, &polynom));
         }
     }
 }
 
-fn numbers(random: &mut Random, shape: u8) -> [f64; 12] {
+fn numbers(random: &mut Random, shape: Shape) -> [f64; 12] {
     let numbers = match random.below(16) {
         0 if random.once_in(2) => still(random),
         0 => std::array::from_fn(|_| edge(random)),
         1 => std::array::from_fn(|_| any_finite(random)),
         2 => std::array::from_fn(|_| ordinary(random)),
-        3 if shape == frame::ACC1_VEL || shape == frame::ACC0_VEL => {
+        3 if shape.takes_roots() => {
             let numbers = planned(random, shape);
             needs::steer(random, shape, numbers)
         }
@@ -46,10 +42,10 @@ fn numbers(random: &mut Random, shape: u8) -> [f64; 12] {
     numbers.map(|number| if number.is_finite() { number } else { 1.0 })
 }
 
-fn planned(random: &mut Random, shape: u8) -> [f64; 12] {
+fn planned(random: &mut Random, shape: Shape) -> [f64; 12] {
     loop {
         let attempt: Attempt = random.pick(&ATTEMPTS);
-        if attempt.kind() == shape {
+        if attempt.shape == shape {
             let numbers = twelve(random, attempt);
             return room(random, numbers);
         }

@@ -1,8 +1,9 @@
 //! Counts what came up, by asking the oracle for each line.
 
-use cases::attempt::{Attempt, ATTEMPTS};
+use cases::attempt::{at_rest, index_of_call};
+use cases::kinds::{Asks, Kind};
 use oracle::quartics::{need, polynoms};
-use oracle::{answer_line, digits, frame, shapes};
+use oracle::{answer, answer_line, digits, frame, shapes};
 use rsruckig::trace;
 
 pub const CAUSES: usize = 12;
@@ -40,16 +41,15 @@ impl Coverage {
         self.lines += 1;
         trace::clear();
         let mut places = [b'-'; frame::RECORD_PLACES];
-        let number = answer_line(request, &mut places);
-        self.refusals[number as usize] += 1;
-        if number != 0 {
+        let answer = answer(request, &mut places);
+        self.refusals[answer.err().unwrap_or(0) as usize] += 1;
+        let Ok(kind) = answer else {
             assert!(places.iter().all(|place| *place == b'-'));
             return;
-        }
+        };
         let mut bytes = [0; frame::LONGEST];
         digits::read(request, &mut bytes);
-        let kind = bytes[0] as usize;
-        if kind < 6 {
+        if kind.replies_record() {
             self.add_record(kind, &bytes, &places);
         }
         self.add_needs(kind, &bytes, &places);
@@ -57,70 +57,66 @@ impl Coverage {
         self.add_short(request, kind);
     }
 
-    fn add_record(&mut self, kind: usize, bytes: &[u8; frame::LONGEST], places: &[u8]) {
+    fn add_record(&mut self, kind: &Kind, bytes: &[u8; frame::LONGEST], places: &[u8]) {
         let mut head = [0; 4];
         digits::read(&places[..8], &mut head);
         let [verdict, label, direction, signs] = head.map(usize::from);
-        self.records[kind][verdict][label][direction][signs] += 1;
+        self.records[kind.number as usize][verdict][label][direction][signs] += 1;
 
         let (checks, count) = trace::checks();
-        if kind == 0 {
+        let Asks::Shape(shape) = kind.asks else {
             let [_, signs, label, set_limits, ..] = bytes.map(usize::from);
             self.checks[signs][label][set_limits][checks[0].cause as usize] += 1;
             return;
-        }
-        self.calls[kind][count] += 1;
+        };
+        self.calls[kind.number as usize][count] += 1;
         let numbers: [f64; 12] = frame::numbers(bytes, frame::NUMBERS);
-        let rest = numbers[3].abs() < f64::EPSILON && numbers[6].abs() < f64::EPSILON;
         for check in &checks[..count] {
-            let attempt = Attempt::of_check(kind as u8, check.signs, check.label, rest);
-            let index = ATTEMPTS.iter().position(|other| *other == attempt).unwrap();
+            let index = index_of_call(shape, check.signs, check.label, at_rest(&numbers));
             self.attempts[index][check.cause as usize] += 1;
             self.directions[index][direction] += (check.cause == 0) as u64;
         }
     }
 
-    fn add_needs(&mut self, kind: usize, bytes: &[u8; frame::LONGEST], places: &[u8]) {
-        if !matches!(kind, 2 | 3 | 6 | 7) {
+    fn add_needs(&mut self, kind: &Kind, bytes: &[u8; frame::LONGEST], places: &[u8]) {
+        let Some(shape) = kind.quartics_of() else {
             return;
-        }
+        };
         let numbers: [f64; 12] = frame::numbers(bytes, frame::NUMBERS);
-        let polynoms = polynoms(kind as u8, &shapes::solver(&numbers), &numbers);
+        let polynoms = polynoms(shape, &shapes::solver(&numbers), &numbers);
         for signs in 0..2 {
             let need = need(&polynoms[signs]) as usize;
-            self.needs[kind][signs][need] += 1;
-            if kind < 4 {
+            self.needs[kind.number as usize][signs][need] += 1;
+            if kind.has_answers() {
                 let count = bytes[frame::ANSWERS + signs * frame::ANSWER_LENGTH];
                 self.counts[need][count as usize] += 1;
                 let yes = places[1] == b'1' && places[7] == b'0' + signs as u8;
-                self.yes_needs[kind][signs][need] += yes as u64;
+                self.yes_needs[kind.number as usize][signs][need] += yes as u64;
             }
         }
     }
 
-    fn add_classes(&mut self, kind: usize, places: &[u8]) {
-        let numbers: Vec<f64> = if kind < 6 {
-            let mut reply = [0; frame::RECORD_PLACES / 2];
-            digits::read(places, &mut reply);
+    fn add_classes(&mut self, kind: &Kind, places: &[u8]) {
+        let mut reply = [0; frame::RECORD_PLACES / 2];
+        digits::read(&places[..kind.places], &mut reply);
+        let numbers: Vec<f64> = if kind.replies_record() {
             frame::numbers::<45>(&reply, 4).to_vec()
         } else {
-            let mut reply = [0; frame::QUARTICS_PLACES / 2];
-            digits::read(&places[..frame::QUARTICS_PLACES], &mut reply);
             let halves = [frame::numbers::<7>(&reply, 1), frame::numbers::<7>(&reply, 58)];
             halves.concat()
         };
         let any = |class: fn(&f64) -> bool| numbers.iter().any(class) as u64;
-        self.classes[kind][0] += any(|number| number.is_nan());
-        self.classes[kind][1] += any(|number| number.is_infinite());
-        self.classes[kind][2] += any(|number| number.to_bits() == 1 << 63);
-        self.classes[kind][3] += any(|number| number.is_subnormal());
+        let classes = &mut self.classes[kind.number as usize];
+        classes[0] += any(|number| number.is_nan());
+        classes[1] += any(|number| number.is_infinite());
+        classes[2] += any(|number| number.to_bits() == 1 << 63);
+        classes[3] += any(|number| number.is_subnormal());
     }
 
     /// Question 8: the accepted line again, now with one place too few.
-    fn add_short(&mut self, request: &[u8], kind: usize) {
-        let lent = if kind < 6 { frame::RECORD_PLACES } else { frame::QUARTICS_PLACES };
+    fn add_short(&mut self, request: &[u8], kind: &Kind) {
         let mut places = [b'-'; frame::RECORD_PLACES];
-        let number = answer_line(request, &mut places[..lent - 1]);
+        let number = answer_line(request, &mut places[..kind.places - 1]);
         assert!(number == 8 && places.iter().all(|place| *place == b'-'));
         self.refusals[8] += 1;
     }

@@ -2,7 +2,8 @@
 //! the reasons below are wrong.
 
 use crate::coverage::{Coverage, CAUSES};
-use cases::attempt::{Attempt, ATTEMPTS};
+use cases::attempt::{Attempt, Form, ATTEMPTS};
+use cases::kinds::{Asks, Kind, Shape, KINDS};
 
 /// What is missing, and what should not have come up.
 pub fn faults(coverage: &Coverage) -> Vec<String> {
@@ -21,7 +22,7 @@ pub fn faults(coverage: &Coverage) -> Vec<String> {
             for set_limits in 0..2 {
                 for cause in 0..CAUSES {
                     hold(
-                        label_has(label, cause),
+                        label_has(label as u8, cause),
                         coverage.checks[signs][label][set_limits][cause],
                         format!(
                             "kind 00, signs {signs}, label {label}, \
@@ -32,29 +33,31 @@ pub fn faults(coverage: &Coverage) -> Vec<String> {
             }
         }
     }
-    for (index, attempt) in ATTEMPTS.into_iter().enumerate() {
+    for (index, attempt) in ATTEMPTS.iter().enumerate() {
+        let form = attempt.form;
         for cause in 0..CAUSES {
             hold(
                 attempt_has(attempt, cause),
                 coverage.attempts[index][cause],
-                format!("{attempt:?}, cause {cause}"),
+                format!("{form:?}, cause {cause}"),
             );
         }
         for direction in 0..2 {
             let count = coverage.directions[index][direction];
-            hold(true, count, format!("{attempt:?}, yes, direction {direction}"));
+            hold(true, count, format!("{form:?}, yes, direction {direction}"));
         }
     }
-    for kind in 0..6 {
+    for kind in KINDS.iter().filter(|kind| kind.replies_record()) {
+        let number = kind.number;
         for verdict in 0..2 {
             for label in 0..8 {
                 for signs in 0..2 {
                     for direction in 0..2 {
                         hold(
-                            record_comes_up(kind, verdict, label, signs),
-                            coverage.records[kind][verdict][label][direction][signs],
+                            record_comes_up(kind, verdict, label as u8, signs as u8),
+                            coverage.records[number as usize][verdict][label][direction][signs],
                             format!(
-                                "kind {kind:02X}, verdict {verdict}, label {label}, \
+                                "kind {number:02X}, verdict {verdict}, label {label}, \
                                  direction {direction}, signs {signs}"
                             ),
                         );
@@ -63,14 +66,15 @@ pub fn faults(coverage: &Coverage) -> Vec<String> {
             }
         }
     }
-    for kind in [2, 3, 6, 7] {
+    for (kind, shape) in KINDS.iter().filter_map(|kind| Some((kind, kind.quartics_of()?))) {
+        let number = kind.number as usize;
         for signs in 0..2 {
             for need in 0..3 {
-                let name = format!("kind {kind:02X}, signs {signs}, need {need:02X}");
-                let can = need_comes_up(kind, need);
-                hold(can, coverage.needs[kind][signs][need], name.clone());
-                let yes = kind < 4 && need != 1;
-                hold(yes, coverage.yes_needs[kind][signs][need], format!("{name}, yes"));
+                let name = format!("kind {number:02X}, signs {signs}, need {need:02X}");
+                let can = need_comes_up(shape, need);
+                hold(can, coverage.needs[number][signs][need], name.clone());
+                let yes = kind.has_answers() && need != 1;
+                hold(yes, coverage.yes_needs[number][signs][need], format!("{name}, yes"));
             }
         }
     }
@@ -91,7 +95,7 @@ pub fn faults(coverage: &Coverage) -> Vec<String> {
 
 /// Causes 2, 3 and 4 are the tests of t[3], t[1] and t[5], which only some labels
 /// have.
-fn label_has(label: usize, cause: usize) -> bool {
+fn label_has(label: u8, cause: usize) -> bool {
     match cause {
         2 => matches!(label, 0 | 1 | 5 | 6),
         3 => matches!(label, 2 | 4),
@@ -104,33 +108,21 @@ fn label_has(label: usize, cause: usize) -> bool {
 /// not finite. Then no product of neighbouring accelerations after phase 1 is
 /// below zero (cause 6), and an a[7] that is not finite comes with a p[7] that is
 /// not (cause 9 after cause 7).
-fn attempt_has(attempt: Attempt, cause: usize) -> bool {
-    let label = match attempt {
-        Attempt::Acc0Acc1VelUddu | Attempt::Acc0Acc1VelUdud => 0,
-        Attempt::Acc1VelUddu | Attempt::Acc1VelUdud => 6,
-        Attempt::Acc0VelUddu | Attempt::Acc0VelUdud => 5,
-        Attempt::Acc0Acc1Rest | Attempt::Acc0Acc1Uddu => 4,
-        Attempt::Acc0UdduAcc0 => 2,
-        Attempt::Acc0UdudNone | Attempt::Acc0UdduNone => 7,
-    };
-    let rest = attempt == Attempt::Acc0Acc1Rest && matches!(cause, 6 | 9);
-    label_has(label, cause) && !rest
+fn attempt_has(attempt: &Attempt, cause: usize) -> bool {
+    let rest = attempt.form == Form::Acc0Acc1Rest && matches!(cause, 6 | 9);
+    label_has(attempt.label, cause) && !rest
 }
 
 /// A yes has the label and signs of the attempt that said it. After a no they are
 /// those of the last attempt that got past the phases, or the default None and
 /// UDDU, where the direction may be set all the same (cause 6). A kind 00 line that
 /// stops early leaves None and UDDU whatever its label and signs.
-fn record_comes_up(kind: usize, verdict: usize, label: usize, signs: usize) -> bool {
+fn record_comes_up(kind: &Kind, verdict: usize, label: u8, signs: u8) -> bool {
     let default = verdict == 0 && label == 7 && signs == 0;
     default
-        || match kind {
-            0 => true,
-            1 => label == 0,
-            2 => label == 6,
-            3 => label == 5,
-            4 => label == 4 && signs == 0,
-            _ => label == 7 || label == 2 && signs == 0,
+        || match kind.asks {
+            Asks::Shape(shape) => ATTEMPTS.iter().any(|other| other.calls_so(shape, signs, label)),
+            _ => true,
         }
 }
 
@@ -140,6 +132,6 @@ fn record_comes_up(kind: usize, verdict: usize, label: usize, signs: usize) -> b
 /// makes a_min (UDDU) or a_max (UDUD) twice a0 and fixes vd; UDDU's t[3] is then
 /// -(x²/2 + x + 1) |a0 / j_max| with x = t |j_max / a0|, below zero for every t,
 /// and UDUD's only root that the motion has is 0, where t[3] is -|a0 / j_max|.
-fn need_comes_up(kind: usize, need: usize) -> bool {
-    need != 1 || matches!(kind, 2 | 6)
+fn need_comes_up(shape: Shape, need: usize) -> bool {
+    need != 1 || shape == Shape::Acc1Vel
 }

@@ -12,16 +12,21 @@ mod coverage;
 mod expected;
 mod table;
 
+use cases::any_line;
+use cases::kinds::{Asks, Kind, KINDS};
 use cases::line::Line;
 use cases::random::Random;
-use cases::{broken_line, check_line, shape_line};
 use coverage::Coverage;
 use std::io::{self, BufWriter, Write};
 use std::{env, process};
 
+/// The shapes get the most lines, as they have the most cases.
+const OFTEN: [usize; 25] =
+    [0, 0, 0, 0, 0, 1, 1, 1, 1, 2, 2, 2, 2, 3, 3, 3, 3, 4, 4, 4, 5, 5, 5, 6, 7];
+
 enum Wanted {
     All,
-    Kind(u8),
+    Kind(&'static Kind),
     Arrivals,
 }
 
@@ -31,8 +36,8 @@ fn main() -> io::Result<()> {
     let (seed, count, wanted) = match words.as_slice() {
         [seed, count] => (seed, count, Wanted::All),
         [seed, count, "kind", kind] => {
-            let kind = u8::from_str_radix(kind, 16).expect("KK is hexadecimal");
-            assert!(kind < 8, "there is no kind {kind:02X}");
+            let kind = usize::from_str_radix(kind, 16).expect("KK is hexadecimal");
+            let kind = KINDS.get(kind).unwrap_or_else(|| panic!("there is no kind {kind:02X}"));
             (seed, count, Wanted::Kind(kind))
         }
         [seed, count, "arrivals"] => (seed, count, Wanted::Arrivals),
@@ -44,16 +49,20 @@ fn main() -> io::Result<()> {
     let mut random = Random::new(seed.parse().expect("SEED is a decimal number"));
     let count: u64 = count.parse().expect("COUNT is a decimal number");
 
+    let shapes: Vec<_> = KINDS.iter().filter(|kind| matches!(kind.asks, Asks::Shape(_))).collect();
     let mut out = BufWriter::with_capacity(1 << 20, io::stdout().lock());
     let mut coverage = Coverage::default();
     let mut line = Line::default();
     while coverage.lines < count {
         match wanted {
-            Wanted::All => any_line(&mut random, &mut line),
-            Wanted::Kind(kind) => accepted_line(&mut random, kind, &mut line),
+            Wanted::All => {
+                let kind = &KINDS[random.pick(&OFTEN)];
+                any_line::sometimes_broken(&mut random, kind, 8, &mut line);
+            }
+            Wanted::Kind(kind) => any_line::accepted(&mut random, kind, &mut line),
             Wanted::Arrivals => loop {
-                let kind = 1 + random.below(5) as u8;
-                accepted_line(&mut random, kind, &mut line);
+                let kind = random.pick(&shapes);
+                any_line::accepted(&mut random, kind, &mut line);
                 if arrivals::arrives(&line.characters) {
                     break;
                 }
@@ -75,22 +84,4 @@ fn main() -> io::Result<()> {
         }
     }
     Ok(())
-}
-
-/// The shapes get the most lines, as they have the most cases.
-fn any_line(random: &mut Random, line: &mut Line) {
-    let kind =
-        random.pick(&[0, 0, 0, 0, 0, 1, 1, 1, 1, 2, 2, 2, 2, 3, 3, 3, 3, 4, 4, 4, 5, 5, 5, 6, 7]);
-    accepted_line(random, kind, line);
-    if random.once_in(8) {
-        broken_line::spoil(random, kind, line);
-    }
-}
-
-fn accepted_line(random: &mut Random, kind: u8, line: &mut Line) {
-    if kind == 0 {
-        check_line::write(random, line);
-    } else {
-        shape_line::write(random, kind, line);
-    }
 }

@@ -2,6 +2,7 @@
 
 use crate::coverage::Coverage;
 use cases::attempt::ATTEMPTS;
+use cases::kinds::{Asks, Kind, KINDS};
 use std::fmt::Write;
 
 pub fn text(coverage: &Coverage) -> String {
@@ -27,11 +28,12 @@ fn write(coverage: &Coverage, text: &mut String) -> std::fmt::Result {
     for (index, attempt) in ATTEMPTS.iter().enumerate() {
         let causes = coverage.attempts[index];
         let directions = coverage.directions[index];
-        writeln!(text, "  {:02X} {attempt:?} {causes:?} {directions:?}", attempt.kind())?;
+        let kind = Kind::asking(Asks::Shape(attempt.shape)).number;
+        writeln!(text, "  {kind:02X} {:?} {causes:?} {directions:?}", attempt.form)?;
     }
     writeln!(text, "lines by how many calls of check, 0 to 8")?;
-    for kind in 1..6 {
-        writeln!(text, "  {kind:02X} {:?}", coverage.calls[kind])?;
+    for kind in KINDS.iter().filter(|kind| matches!(kind.asks, Asks::Shape(_))) {
+        writeln!(text, "  {:02X} {:?}", kind.number, coverage.calls[kind.number as usize])?;
     }
     writeln!(text, "replies: kind, verdict, label; by UP UDDU, UP UDUD, DOWN UDDU, DOWN UDUD")?;
     for (kind, records) in coverage.records.iter().enumerate() {
@@ -44,7 +46,8 @@ fn write(coverage: &Coverage, text: &mut String) -> std::fmt::Result {
         }
     }
     writeln!(text, "quartics: kind, signs; by need 00 to 02; yeses by need")?;
-    for kind in [2, 3, 6, 7] {
+    for kind in KINDS.iter().filter(|kind| kind.quartics_of().is_some()) {
+        let kind = kind.number as usize;
         for signs in 0..2 {
             let needs = coverage.needs[kind][signs];
             let yeses = coverage.yes_needs[kind][signs];

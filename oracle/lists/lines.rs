@@ -2,10 +2,12 @@
 //! kept: they are sorted by what comes up in them, and every case gives its share.
 
 use crate::Lists;
+use cases::attempt::at_rest;
+use cases::kinds::{Asks, Kind, Shape, KINDS};
 use cases::line::Line;
 use cases::random::Random;
-use cases::{broken_line, check_line, shape_line};
-use oracle::{answer_line, digits, frame};
+use cases::{any_line, broken_line};
+use oracle::{digits, frame};
 use rsruckig::{hand_in, trace};
 use std::collections::BTreeMap;
 
@@ -15,23 +17,19 @@ const MADE: usize = 400_000;
 type Make = fn(&mut Random, &mut Line);
 
 pub fn check(random: &mut Random, line: &mut Line) {
-    check_line::write(random, line);
+    any_line::accepted(random, Kind::asking(Asks::Check), line);
 }
 
 pub fn shape(random: &mut Random, line: &mut Line) {
     let kind = random.pick(&[1, 1, 2, 2, 3, 3, 4, 4, 5, 5, 6, 7]);
-    shape_line::write(random, kind, line);
+    any_line::accepted(random, &KINDS[kind], line);
 }
 
 /// Faulty lines, though some of the faults are none: a time may be NaN.
 pub fn broken(random: &mut Random, line: &mut Line) {
-    let kind = random.below(8) as u8;
-    if kind == frame::CHECK {
-        check_line::write(random, line);
-    } else {
-        shape_line::write(random, kind, line);
-    }
-    broken_line::spoil(random, kind, line);
+    let kind = random.pick(&KINDS);
+    any_line::accepted(random, &kind, line);
+    broken_line::spoil(random, &kind, line);
 }
 
 struct Answered {
@@ -76,46 +74,43 @@ fn answer(request: &[u8]) -> Answered {
     trace::clear();
     hand_in::set([hand_in::RootAnswer::default(); 2]);
     let mut places = [0; frame::RECORD_PLACES];
-    let number = answer_line(request, &mut places);
-    if number != 0 {
-        return Answered {
-            group: vec![number as u8],
-            case: if number > 3 { request[..2].to_vec() } else { Vec::new() },
-            reply: format!("{number:02}").into_bytes(),
-        };
-    }
-    let kind = request[1] - b'0';
-    if kind > frame::ACC0 {
+    let kind = match oracle::answer(request, &mut places) {
+        Ok(kind) => kind,
+        Err(number) => {
+            return Answered {
+                group: vec![number as u8],
+                case: if number > 3 { request[..2].to_vec() } else { Vec::new() },
+                reply: format!("{number:02}").into_bytes(),
+            }
+        }
+    };
+    let reply = places[..kind.places].to_vec();
+    if !kind.replies_record() {
         // By the two needs.
-        return Answered {
-            group: vec![0, kind],
-            case: vec![places[1], places[frame::QUARTICS_PLACES / 2 + 1]],
-            reply: places[..frame::QUARTICS_PLACES].to_vec(),
-        };
+        let case = vec![reply[1], reply[kind.places / 2 + 1]];
+        return Answered { group: vec![0, kind.number], case, reply };
     }
     // By verdict; then by label, direction and signs, by the calls of `check` and
     // the last of them, and by what kind 00 was asked or the quartics asked for.
-    let mut case = places[2..8].to_vec();
+    let mut case = reply[2..8].to_vec();
     let (checks, calls) = trace::checks();
     case.push(calls as u8);
     if let Some(last) = calls.checked_sub(1).map(|index| checks[index]) {
         case.extend_from_slice(&[last.signs, last.label, last.cause]);
     }
-    if kind == frame::CHECK {
-        case.extend_from_slice(&request[2..8]);
-    } else if kind == frame::ACC0_ACC1 {
-        case.push(at_rest(request) as u8);
-    } else {
-        let (quartics, ran) = hand_in::quartics();
-        case.extend(quartics[..ran].iter().map(|quartic| quartic.asked));
+    match kind.asks {
+        Asks::Check => case.extend_from_slice(&request[2..8]),
+        Asks::Shape(Shape::Acc0Acc1) => case.push(at_rest(&twelve(request)) as u8),
+        _ => {
+            let (quartics, ran) = hand_in::quartics();
+            case.extend(quartics[..ran].iter().map(|quartic| quartic.asked));
+        }
     }
-    Answered { group: vec![0, kind, places[1]], case, reply: places.to_vec() }
+    Answered { group: vec![0, kind.number, reply[1]], case, reply }
 }
 
-/// The fourth shape's rest formula is for both end accelerations below EPS.
-fn at_rest(request: &[u8]) -> bool {
+fn twelve(request: &[u8]) -> [f64; 12] {
     let mut bytes = [0; frame::LONGEST];
     digits::read(request, &mut bytes);
-    let numbers: [f64; 12] = frame::numbers(&bytes, frame::NUMBERS);
-    numbers[3].abs() < f64::EPSILON && numbers[6].abs() < f64::EPSILON
+    frame::numbers(&bytes, frame::NUMBERS)
 }

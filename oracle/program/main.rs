@@ -7,8 +7,8 @@
 
 mod line_feed;
 
-use oracle::answer_line;
-use oracle::frame::{LONGEST, QUARTICS_PLACES, RECORD_PLACES};
+use oracle::answer;
+use oracle::frame::{LONGEST, RECORD_PLACES};
 use std::io::{self, Read, Write};
 
 /// Large blocks, so that reading and writing cost little beside the answers.
@@ -30,11 +30,9 @@ impl<W: Write> Output<W> {
             self.flush()?;
         }
         let room = &mut self.block[self.filled..];
-        let number = answer_line(request, &mut room[..self.lent]);
-        let length = match number {
-            0 if is_quartics(request) => QUARTICS_PLACES,
-            0 => RECORD_PLACES,
-            _ => {
+        let length = match answer(request, &mut room[..self.lent]) {
+            Ok(kind) => kind.places,
+            Err(number) => {
                 room[0] = b'0' + (number / 10) as u8;
                 room[1] = b'0' + (number % 10) as u8;
                 2
@@ -50,11 +48,6 @@ impl<W: Write> Output<W> {
         self.filled = 0;
         self.to.flush()
     }
-}
-
-/// Of an accepted line: kinds 06 and 07 have the shorter reply.
-fn is_quartics(request: &[u8]) -> bool {
-    matches!(request[1], b'6' | b'7')
 }
 
 fn run(mut from: impl Read, output: &mut Output<impl Write>) -> io::Result<()> {

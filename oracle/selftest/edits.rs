@@ -2,11 +2,12 @@
 //! taken out of the shapes give bit for bit what the shapes' own calls receive;
 //! and what those calls ask for is what the needs say, with the same arguments.
 
+use cases::any_line::sometimes_broken;
+use cases::kinds::{Asks, Shape, KINDS};
 use cases::line::Line;
 use cases::random::Random;
-use cases::{broken_line, check_line, shape_line};
 use oracle::quartics::{need, polynoms};
-use oracle::{answer_line, digits, frame, shapes};
+use oracle::{answer, digits, frame, shapes};
 use rsruckig::roots::resolvent_arguments;
 use rsruckig::{hand_in, trace};
 
@@ -17,34 +18,30 @@ pub fn test(seed: u64, count: u64) -> usize {
     let mut compared = 0;
     for _ in 0..count {
         let kind = random.pick(&[0, 1, 2, 2, 3, 3, 4, 5, 6, 7]);
-        match kind {
-            frame::CHECK => check_line::write(&mut random, &mut line),
-            _ => shape_line::write(&mut random, kind, &mut line),
-        }
-        if random.once_in(16) {
-            broken_line::spoil(&mut random, kind, &mut line);
-        }
+        sometimes_broken(&mut random, &KINDS[kind], 16, &mut line);
         let request = &line.characters;
 
         trace::clear();
         let mut traced = [b'-'; frame::RECORD_PLACES];
         let mut untraced = traced;
-        let number = answer_line(request, &mut traced);
-        assert_eq!(number, plain::answer_line(request, &mut untraced));
+        let answer = answer(request, &mut traced);
+        assert_eq!(answer.err().unwrap_or(0), plain::answer_line(request, &mut untraced));
         assert_eq!(traced, untraced);
-        let has_answers = matches!(request[..], [b'0', b'2' | b'3', ..]);
-        if number == 0 && has_answers {
-            compared += compare_quartics(request);
+        match answer.map(|kind| kind.asks) {
+            Ok(Asks::Shape(shape)) if shape.takes_roots() => {
+                compared += compare_quartics(shape, request)
+            }
+            _ => {}
         }
     }
     compared
 }
 
-fn compare_quartics(request: &[u8]) -> usize {
+fn compare_quartics(shape: Shape, request: &[u8]) -> usize {
     let mut bytes = [0; frame::LONGEST];
     digits::read(request, &mut bytes);
     let numbers: [f64; 12] = frame::numbers(&bytes, frame::NUMBERS);
-    let taken_out = polynoms(bytes[0], &shapes::solver(&numbers), &numbers);
+    let taken_out = polynoms(shape, &shapes::solver(&numbers), &numbers);
     let (quartics, ran) = hand_in::quartics();
     for (polynom, quartic) in taken_out.iter().zip(&quartics[..ran]) {
         same(polynom, &quartic.polynom);

@@ -1,5 +1,6 @@
 //! Document 01, 'Moves worked through', and its whole case.
 
+use cases::kinds::{Asks, Kind, Shape};
 use cases::line::Line;
 use oracle::{answer_line, digits, frame};
 use rsruckig::hand_in::{self, RootAnswer};
@@ -37,7 +38,7 @@ fn ask(line: &Line) -> Reply {
 fn check(check: Check) -> Reply {
     let Check { signs, label, times, a0, pf, vf, v, a } = check;
     let mut line = Line::default();
-    for byte in [frame::CHECK, signs, label, 0] {
+    for byte in [Kind::asking(Asks::Check).number, signs, label, 0] {
         line.byte(byte);
     }
     line.numbers(&times);
@@ -45,9 +46,9 @@ fn check(check: Check) -> Reply {
     ask(&line)
 }
 
-fn shape(kind: u8, tf: f64, pf: f64, v: f64) -> Reply {
+fn shape(shape: Shape, tf: f64, pf: f64, v: f64) -> Reply {
     let mut line = Line::default();
-    line.byte(kind);
+    line.byte(Kind::asking(Asks::Shape(shape)).number);
     line.numbers(&[tf, 0.0, 0.0, 0.0, pf, 0.0, 0.0, v, -v, 1.0, -1.0, 1.0]);
     ask(&line)
 }
@@ -66,8 +67,8 @@ pub fn test() -> usize {
     let up_and_up = Check { signs: 1, pf: 4.0, vf: 2.0, v: 1.5, ..up_and_down };
     let smallest = f64::from_bits(1);
     let replaced = check(Check { a0: 1.0, label: LABEL_VEL, ..time(THREE, 1.0) });
-    let all_one = shape(frame::ACC0_ACC1_VEL, 7.0, 8.0, 2.0);
-    let rest = shape(frame::ACC0_ACC1, 6.0, 6.0, 2.0);
+    let all_one = shape(Shape::Acc0Acc1Vel, 7.0, 8.0, 2.0);
+    let rest = shape(Shape::Acc0Acc1, 6.0, 6.0, 2.0);
 
     let rows = [
         check(AS_IT_IS).yes,
@@ -84,7 +85,7 @@ pub fn test() -> usize {
         // The accelerations follow t, t_sum and j; a[2] is still 1.
         replaced.yes && replaced.numbers[21 + 2] == 1.0 && replaced.numbers[21 + 3] == 0.0,
         all_one.yes && all_one.numbers[..7] == [1.0; 7],
-        !shape(frame::ACC0_ACC1_VEL, 7.0, 8.0, 1.5).yes,
+        !shape(Shape::Acc0Acc1Vel, 7.0, 8.0, 1.5).yes,
         !rest.yes && rest.numbers[1] == -1.0,
         2f64.sqrt().to_bits() == 0x3FF6_A09E_667F_3BCD,
         quartic_inserts(),

@@ -1,19 +1,7 @@
 //! Where the parts of a frame stand, in bytes.
 
-pub const CHECK: u8 = 0x00;
-pub const ACC0_ACC1_VEL: u8 = 0x01;
-pub const ACC1_VEL: u8 = 0x02;
-pub const ACC0_VEL: u8 = 0x03;
-pub const ACC0_ACC1: u8 = 0x04;
-pub const ACC0: u8 = 0x05;
-pub const ACC1_VEL_QUARTICS: u8 = 0x06;
-pub const ACC0_VEL_QUARTICS: u8 = 0x07;
-
 /// The longest frame, that of `check`.
 pub const LONGEST: usize = 148;
-
-/// The length that each kind's frame has.
-pub const LENGTHS: [usize; 8] = [LONGEST, 97, 147, 147, 97, 97, 97, 97];
 
 /// Where kind 00's seven times and the eleven numbers after them begin.
 pub const CHECK_TIMES: usize = 4;

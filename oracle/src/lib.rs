@@ -6,8 +6,9 @@ mod answer;
 pub mod check;
 pub mod digits;
 pub mod frame;
+pub mod kinds;
 pub mod quartics;
 mod reply;
 pub mod shapes;
 
-pub use answer::answer_line;
+pub use answer::{answer, answer_line};

@@ -1,10 +1,11 @@
 //! Kinds 06 and 07: what the quartics of shapes 2 and 3 need.
 
+use crate::kinds::Shape;
 use crate::{digits, frame, shapes};
 use rsruckig::position_third_step2::PositionThirdOrderStep2;
 use rsruckig::roots::resolvent_arguments;
 
-pub fn answer(kind: u8, bytes: &[u8; frame::LONGEST], places: &mut [u8]) -> u32 {
+pub fn answer(shape: Shape, bytes: &[u8; frame::LONGEST], places: &mut [u8]) -> u32 {
     let numbers: [f64; 12] = frame::numbers(bytes, frame::NUMBERS);
     if !frame::all_finite(&numbers) {
         return 6;
@@ -12,7 +13,7 @@ pub fn answer(kind: u8, bytes: &[u8; frame::LONGEST], places: &mut [u8]) -> u32 
     let Some(places) = places.first_chunk_mut::<{ frame::QUARTICS_PLACES }>() else {
         return 8;
     };
-    let polynoms = polynoms(kind, &shapes::solver(&numbers), &numbers);
+    let polynoms = polynoms(shape, &shapes::solver(&numbers), &numbers);
     for (polynom, half) in polynoms.iter().zip(places.chunks_exact_mut(frame::QUARTICS_PLACES / 2))
     {
         let (head, body) = half.split_at_mut(2);
@@ -26,20 +27,23 @@ pub fn answer(kind: u8, bytes: &[u8; frame::LONGEST], places: &mut [u8]) -> u32 
     0
 }
 
-/// UDDU's quartic, then UDUD's, of the second shape (kinds 02 and 06) or of the
-/// third (03 and 07).
-pub fn polynoms(kind: u8, solver: &PositionThirdOrderStep2, numbers: &[f64; 12]) -> [[f64; 4]; 2] {
+/// UDDU's quartic, then UDUD's, of the second shape or of the third.
+pub fn polynoms(
+    shape: Shape,
+    solver: &PositionThirdOrderStep2,
+    numbers: &[f64; 12],
+) -> [[f64; 4]; 2] {
     let [.., a_max, a_min, j_max] = *numbers;
-    if kind == frame::ACC1_VEL || kind == frame::ACC1_VEL_QUARTICS {
-        [
+    match shape {
+        Shape::Acc1Vel => [
             solver.time_acc1_vel_uddu_polynom(a_max, a_min, j_max),
             solver.time_acc1_vel_udud_polynom(a_max, a_min, j_max),
-        ]
-    } else {
-        [
+        ],
+        Shape::Acc0Vel => [
             solver.time_acc0_vel_uddu_polynom(a_max, a_min, j_max),
             solver.time_acc0_vel_udud_polynom(a_max, a_min, j_max),
-        ]
+        ],
+        _ => unreachable!("{shape:?} has no quartics"),
     }
 }
 

@@ -1,15 +1,15 @@
 //! Kinds 01 to 05: one shape from a default record.
 
+use crate::kinds::Shape;
 use crate::quartics::{need, polynoms};
 use crate::{frame, reply};
 use rsruckig::hand_in::{self, RootAnswer};
 use rsruckig::position_third_step2::PositionThirdOrderStep2;
 use rsruckig::profile::Profile;
 
-pub fn answer(kind: u8, bytes: &[u8; frame::LONGEST], places: &mut [u8]) -> u32 {
+pub fn answer(shape: Shape, bytes: &[u8; frame::LONGEST], places: &mut [u8]) -> u32 {
     let numbers: [f64; 12] = frame::numbers(bytes, frame::NUMBERS);
-    let has_answers = kind == frame::ACC1_VEL || kind == frame::ACC0_VEL;
-    let answers = if has_answers {
+    let answers = if shape.takes_roots() {
         [0, 1].map(|index| root_answer(bytes, index))
     } else {
         [RootAnswer::default(); 2]
@@ -21,8 +21,8 @@ pub fn answer(kind: u8, bytes: &[u8; frame::LONGEST], places: &mut [u8]) -> u32 
         return 6;
     }
     let mut solver = solver(&numbers);
-    if has_answers {
-        let polynoms = polynoms(kind, &solver, &numbers);
+    if shape.takes_roots() {
+        let polynoms = polynoms(shape, &solver, &numbers);
         if (0..2).any(|index| !suits(answers[index].count, need(&polynoms[index]))) {
             return 7;
         }
@@ -35,7 +35,7 @@ pub fn answer(kind: u8, bytes: &[u8; frame::LONGEST], places: &mut [u8]) -> u32 
     let [_, p0, v0, a0, pf, vf, af, ..] = numbers;
     let mut profile = Profile::default();
     profile.set_boundary(p0, v0, a0, pf, vf, af);
-    let yes = ask(kind, &mut solver, &mut profile, &numbers);
+    let yes = ask(shape, &mut solver, &mut profile, &numbers);
     reply::write(yes, &profile, places);
     0
 }
@@ -46,21 +46,18 @@ pub fn solver(numbers: &[f64; 12]) -> PositionThirdOrderStep2 {
 }
 
 fn ask(
-    kind: u8,
+    shape: Shape,
     solver: &mut PositionThirdOrderStep2,
     profile: &mut Profile,
     numbers: &[f64; 12],
 ) -> bool {
     let [.., v_max, v_min, a_max, a_min, j_max] = *numbers;
-    match kind {
-        frame::ACC0_ACC1_VEL => {
-            solver.time_acc0_acc1_vel(profile, v_max, v_min, a_max, a_min, j_max)
-        }
-        frame::ACC1_VEL => solver.time_acc1_vel(profile, v_max, v_min, a_max, a_min, j_max),
-        frame::ACC0_VEL => solver.time_acc0_vel(profile, v_max, v_min, a_max, a_min, j_max),
-        frame::ACC0_ACC1 => solver.time_acc0_acc1(profile, v_max, v_min, a_max, a_min, j_max),
-        frame::ACC0 => solver.time_acc0(profile, v_max, v_min, a_max, a_min, j_max),
-        _ => unreachable!(),
+    match shape {
+        Shape::Acc0Acc1Vel => solver.time_acc0_acc1_vel(profile, v_max, v_min, a_max, a_min, j_max),
+        Shape::Acc1Vel => solver.time_acc1_vel(profile, v_max, v_min, a_max, a_min, j_max),
+        Shape::Acc0Vel => solver.time_acc0_vel(profile, v_max, v_min, a_max, a_min, j_max),
+        Shape::Acc0Acc1 => solver.time_acc0_acc1(profile, v_max, v_min, a_max, a_min, j_max),
+        Shape::Acc0 => solver.time_acc0(profile, v_max, v_min, a_max, a_min, j_max),
     }
 }
 

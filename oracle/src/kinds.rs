@@ -1,0 +1,73 @@
+//! The kinds of line, a row each. Whatever depends on a line's kind is read from here.
+
+use crate::frame::{QUARTICS_PLACES, RECORD_PLACES};
+
+/// The five shapes of step 2.
+#[derive(Clone, Copy, PartialEq, Debug)]
+pub enum Shape {
+    Acc0Acc1Vel,
+    Acc1Vel,
+    Acc0Vel,
+    Acc0Acc1,
+    Acc0,
+}
+
+impl Shape {
+    /// Whether it tries the roots of two quartics.
+    pub fn takes_roots(self) -> bool {
+        matches!(self, Shape::Acc1Vel | Shape::Acc0Vel)
+    }
+}
+
+#[derive(Clone, Copy, PartialEq, Debug)]
+pub enum Asks {
+    Check,
+    Shape(Shape),
+    Quartics(Shape),
+}
+
+#[derive(Clone, Copy)]
+pub struct Kind {
+    pub number: u8,
+    /// How long a frame is, in bytes.
+    pub bytes: usize,
+    /// How long a reply is, in places.
+    pub places: usize,
+    pub asks: Asks,
+}
+
+/// By number.
+pub static KINDS: [Kind; 8] = [
+    Kind { number: 0x00, bytes: 148, places: RECORD_PLACES, asks: Asks::Check },
+    Kind { number: 0x01, bytes: 97, places: RECORD_PLACES, asks: Asks::Shape(Shape::Acc0Acc1Vel) },
+    Kind { number: 0x02, bytes: 147, places: RECORD_PLACES, asks: Asks::Shape(Shape::Acc1Vel) },
+    Kind { number: 0x03, bytes: 147, places: RECORD_PLACES, asks: Asks::Shape(Shape::Acc0Vel) },
+    Kind { number: 0x04, bytes: 97, places: RECORD_PLACES, asks: Asks::Shape(Shape::Acc0Acc1) },
+    Kind { number: 0x05, bytes: 97, places: RECORD_PLACES, asks: Asks::Shape(Shape::Acc0) },
+    Kind { number: 0x06, bytes: 97, places: QUARTICS_PLACES, asks: Asks::Quartics(Shape::Acc1Vel) },
+    Kind { number: 0x07, bytes: 97, places: QUARTICS_PLACES, asks: Asks::Quartics(Shape::Acc0Vel) },
+];
+
+impl Kind {
+    pub fn asking(asks: Asks) -> &'static Kind {
+        KINDS.iter().find(|kind| kind.asks == asks).expect("a kind that asks this")
+    }
+
+    /// Kinds 00 to 05; the others reply with two quartics.
+    pub fn replies_record(&self) -> bool {
+        !matches!(self.asks, Asks::Quartics(_))
+    }
+
+    /// Kinds 02 and 03: the frame ends with two root answers.
+    pub fn has_answers(&self) -> bool {
+        matches!(self.asks, Asks::Shape(shape) if shape.takes_roots())
+    }
+
+    /// The shape that has the two quartics of kinds 02, 03, 06 and 07.
+    pub fn quartics_of(&self) -> Option<Shape> {
+        match self.asks {
+            Asks::Shape(shape) | Asks::Quartics(shape) if shape.takes_roots() => Some(shape),
+            _ => None,
+        }
+    }
+}
