@@ -1,10 +1,10 @@
 -- Digits by the largest of two sums: a character less 48 and less 65, round 256. Assumes nothing.
-use mathlib.Core.Path.{_≡_, refl, sym, subst, _∙_}
+use mathlib.Core.Path.{_≡_, refl, sym, subst}
 use mathlib.Core.Bool.{Bool, true, false, cond, _&&_}
 use Prim.Native.Nat.{ℕ, zero, suc, _+_, _%_, _≤_, _<_}
 use native.Mathlib.Omega.{arith}
 use lib.Dec.{leb, ltb}
-use borrow.Author.Tests.{leb-true, leb-false, le-leb, lt-leb, ltb-true, ltb-false}
+use borrow.Author.Tests.{leb-true, le-leb, ltb-true, ltb-false}
 use Rattle.hex.specs.Hex.{isDigit}
 use Rattle.hex.proofs.Digits.{and-left, and-right}
 

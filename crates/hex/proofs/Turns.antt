@@ -1,18 +1,20 @@
 -- A turn of each loop, and its end: what is still to be stored from here is the whole from the start. Assumes nothing.
 use mathlib.Core.Path.{_≡_, refl, ap, sym, _∙_}
 use mathlib.Core.Bool.{Bool, true, false, _&&_, _||_, and-assoc, and-true}
-use mathlib.Core.List.{List, [], _∷_, _++_, map}
+use mathlib.Core.List.{List, [], _∷_, map}
 use Prim.Native.Nat.{ℕ, zero, suc, _+_, _-_, _*_, _/_, _%_, _≤_, _<_}
 use native.Mathlib.Nat.{zero-add, add-zero}
 use native.Mathlib.Numerals.{add-one}
 use native.Mathlib.Omega.{arith}
 use lib.Dec.{eqb, ltb}
-use lib.ListN.{length, getD, take, drop, set, length-append, length-drop, length-map, drop-of-length-le, List·getD-append, replicate, length-replicate, length-take}
-use lib.Seq.{take-all, drop-append-le, drop-cons, drop-drop, drop-set-lt, getD-drop, take-at, drop-at, slice, slice-cons, slice-empty, sets, sets-eq}
-use borrow.Author.Tests.{lt-ltb, le-ltb, ltb-false, eqb-false}
+use lib.ListN.{length, getD, take, drop, set, length-append, length-drop, length-map, drop-of-length-le}
+use lib.ListN.{List·getD-append}
+use lib.Seq.{take-all, drop-cons, drop-drop, drop-set-lt, getD-drop, take-at, drop-at, slice, slice-cons, slice-empty}
+use lib.Seq.{sets, sets-eq}
+use borrow.Author.Tests.{lt-ltb, le-ltb, ltb-false}
 use Rattle.hex.specs.Hex.{isDigit, allDigits, valueOf, pairsOf, bytesOf, digitOf, hexOf, fill, decodeOf, encodeOf}
 use Rattle.hex.specs.Steps.{nibblesOf}
-use Rattle.hex.proofs.Digits.{and-left, and-right, or-left, or-right}
+use Rattle.hex.proofs.Digits.{and-left, and-right, or-right}
 use Rattle.hex.proofs.Pair.{digit-lt}
 
 -- ---- decoding: whether all are digits
@@ -107,13 +109,6 @@ all-paired line bytes i h = rw (empty (bytesOf (drop (2 * i) line)) (omega (arit
       where
         some : (n : ℕ) → suc n ≡ 0 → ⊥
         some n e = omega arith
-
--- ---- decoding: zeros first
-pub zeroed : (bytes : List ℕ) (n i : ℕ) → i < n → sets (set bytes i 0) (i + 1) (replicate (n - (i + 1)) 0) ≡ sets bytes i (replicate (n - i) 0)
-zeroed bytes n i h = let e : n - i ≡ suc (n - (i + 1)) = omega arith in rw (e, add-one i)
-
-pub all-zeroed : (bytes : List ℕ) (n i : ℕ) → n ≤ i → bytes ≡ sets bytes i (replicate (n - i) 0)
-all-zeroed bytes n i h = let e : n - i ≡ 0 = omega arith in rw e
 
 -- ---- encoding: the values of the digits
 pub halved : (bytes reply : List ℕ) (i : ℕ) → i < length bytes

@@ -9,7 +9,8 @@ ghost use lib.ListN.{length, getD, take};
 ghost use Rattle.hex.specs.Hex.{Filled, isDigit, allDigits, valueOf, bytesOf, digitOf, fill, decodeOf, encodeOf};
 ghost use Rattle.hex.specs.Steps.{nibblesOf};
 
-fn value(c: u8) -> u8
+// What a digit stands for; 0 for any other character.
+pub fn value(c: u8) -> u8
     ensures { λ r. ⌜ r ≡ valueOf c ⌝ }
 {
     if (48 <= c) & (c <= 57) {

@@ -1,7 +1,6 @@
 -- `encode` is `encodeOf`. Assumes nothing.
 use mathlib.Core.Path.{_∙_}
 use native.Mathlib.Omega.{arith}
-use lib.ListN.{length}
 use borrow.Author.Needs.{needs}
 use Rattle.hex.proofs.Turns.{none-encoded, enough, small, encoded}
 use Rattle.hex.proofs.encode.Statement.{statement}

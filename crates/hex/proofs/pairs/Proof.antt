@@ -1,5 +1,5 @@
 -- `pairs` stores `bytesOf`. The invariant: what is still to be stored from here is the whole from the start. Assumes nothing.
-use Prim.Native.Nat.{_≤_, _+_, _*_, _/_, _-_}
+use Prim.Native.Nat.{_≤_, _*_, _/_, _-_}
 use mathlib.Core.Path.{_≡_, refl, _∙_}
 use native.Mathlib.Omega.{arith}
 use lib.ListN.{length, drop, length-set}

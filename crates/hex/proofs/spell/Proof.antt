@@ -1,7 +1,7 @@
 -- `spell` turns the first n places from values to digits. The invariant: what is still to be stored from here is the whole from the start,
 -- and what stands from here on is as it was. Assumes nothing.
-use Prim.Native.Nat.{_≤_, _<_, _-_}
-use mathlib.Core.Path.{_≡_, refl, sym, subst, _∙_}
+use Prim.Native.Nat.{_≤_, _-_}
+use mathlib.Core.Path.{_≡_, refl, _∙_}
 use mathlib.Core.List.{map}
 use native.Mathlib.Omega.{arith}
 use lib.ListN.{length, take, drop, length-set, length-map}
