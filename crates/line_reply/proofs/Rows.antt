@@ -9,7 +9,7 @@ use lib.ListN.{length, getD, take, drop, set, length-append, drop-of-length-le}
 use lib.Seq.{drop-cons, sets, sets-eq, take-append-seam}
 use lib.Ieee.{Float}
 use Rattle.number_bytes.specs.Bytes.{numberBytes}
-use Rattle.profile.specs.declared.in_place.Answer.{Answer}
+use Rattle.profile.specs.declared.in_place.Verdict.{Verdict}
 use Rattle.roots.specs.declared.Need.{Need}
 use Rattle.roots.specs.declared.Three.{Three}
 use Rattle.roots.specs.Quartic.{needOf, needNumber, resolventOf}
@@ -77,7 +77,7 @@ module _ (t s j a v p : List Float) (ht : length t ≡ 7) (hs : length s ≡ 7) 
       (sets-eq x6 l 4 h ∙ rw (drop-of-length-le l k) (simp (append-assoc, append-nil)))
 
 -- the first four places after the head is stored
-pub head-first : (r : Answer) (l : List ℕ) → length l ≡ 364 → take 4 (sets l 0 (headOf r)) ≡ headOf r
+pub head-first : (r : Verdict) (l : List ℕ) → length l ≡ 364 → take 4 (sets l 0 (headOf r)) ≡ headOf r
 unfolding headOf
 head-first r l h =
     let k : 0 + 4 ≤ length l = omega arith in rw (sets-eq (headOf r) l 0 k) (take-append-seam (headOf r) (drop (0 + 4) l))

@@ -10,7 +10,7 @@ use Rattle.number_bytes.specs.Bytes.{numberBytes}
 use Rattle.labels.specs.Labels.{labelNumber, directionNumber, signsNumber}
 use Rattle.profile.specs.Parts.{labelsOf}
 use Rattle.profile.specs.declared.Profile.{Profile}
-use Rattle.profile.specs.declared.in_place.Answer.{Answer}
+use Rattle.profile.specs.declared.in_place.Verdict.{Verdict}
 use Rattle.profile.specs.declared.Checked.{Checked}
 use Rattle.roots.specs.Quartic.{needOf, needNumber, resolventOf}
 
@@ -20,7 +20,7 @@ numbersBytes [] = []
 numbersBytes (x ∷ xs) = numberBytes x ++ numbersBytes xs
 
 -- verdict (1 yes), label, direction, signs
-unfoldable pub headOf : Answer → List ℕ
+unfoldable pub headOf : Verdict → List ℕ
 headOf r =
     let l = r .labels in
     cond (r .ok) 1 0 ∷ labelNumber (l .limits) ∷ directionNumber (l .direction) ∷ signsNumber (l .«control_signs») ∷ []

@@ -4,7 +4,7 @@ mod record;
 mod stores;
 
 use hex::encode;
-use profile::in_place::Answer;
+use profile::in_place::Verdict;
 use quartics::put_quartics;
 use record::put_record;
 ghost use mathlib.Core.Path.{_≡_};
@@ -22,7 +22,7 @@ fn send(bytes: &[u8; 364], reply: &mut [u8]) -> bool
 // The reply of `check` and of a shape; no, and nothing touched, where the places are fewer.
 pub fn write_record(
     reply: &mut [u8],
-    answer: Answer,
+    answer: Verdict,
     t: &[f64; 7],
     t_sum: &[f64; 7],
     j: &[f64; 7],

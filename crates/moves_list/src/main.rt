@@ -24,7 +24,7 @@ use position_third_step2::time_acc0_vel;
 use position_third_step2::time_acc1_vel;
 use profile::Checked;
 use profile::Profile;
-use profile::in_place::Answer;
+use profile::in_place::Verdict;
 use roots::RootAnswer;
 use step2_solver::Move;
 use step2_solver::Shape;
@@ -32,7 +32,7 @@ use step2_solver_quartic::quartics_of;
 
 fn send_record(c: Checked) -> bool {
     let q = c.profile;
-    let answer = Answer {
+    let answer = Verdict {
         ok: c.ok,
         labels: q.labels(),
     };
