@@ -1,5 +1,5 @@
 -- The replies: of kinds 00 to 05 the verdict and the whole record, in 364 bytes; of kinds 06 and 07 two quartics, in 114. Definitions only.
-use mathlib.Core.Bool.{Bool, true, false, cond}
+use mathlib.Core.Bool.{true, false, cond}
 use mathlib.Core.List.{List, [], _∷_, _++_}
 use Prim.Native.Nat.{ℕ}
 use lib.Dec.{leb}

@@ -1,13 +1,12 @@
 -- What holds of every quartic's roots: at most four, none below 0 or NaN, each an f64; and of the order of trial, which keeps these and ascends.
 -- Assumes nothing.
 use Prim.Native.Nat.{ℕ, zero, suc, _*_, _≤_, _<_, zero-le}
-use mathlib.Core.Path.{_≡_, refl, sym, _∙_}
+use mathlib.Core.Path.{_≡_, refl, sym}
 use mathlib.Core.Bool.{Bool, true, false, not, cond, true≢false}
 use mathlib.Core.List.{List, [], _∷_, _++_}
 use native.Mathlib.Omega.{arith}
 use lib.Dec.{T, ltb}
-use lib.ListN.{length, getD, length-append, length-take, List·getD-append}
-use lib.Seq.{getD-take}
+use lib.ListN.{length, getD, length-append}
 use lib.Ieee.{Float, nan, inf, fin, binary64, ofBits, lt, le, neg, fits, isNan, up, down, below}
 use lib.Ieee.Fits.{neg-fits, div-fits}
 use lib.Ieee.Bits.{ofBits-fits}
@@ -20,7 +19,7 @@ use Rattle.roots.specs.declared.Need.{Need}
 use Rattle.roots.specs.declared.Need.the-variants.{Nothing, Cube, Resolvent}
 use Rattle.roots.specs.declared.RootAnswer.{RootAnswer}
 use Rattle.roots.specs.declared.RootAnswer.the-variants.{CubeRoot, Resolved}
-use Rattle.roots.specs.Set.{placesOf, insertOf, insertAllOf, intoOf, sortedOf}
+use Rattle.roots.specs.Set.{insertOf, insertAllOf, intoOf, sortedOf}
 use Rattle.roots.specs.Quartic.{needOf, chosenOf, factorsOf, quadraticOf, withoutCdOf, withCbrtOf, resolvedOf, offeredOf, rootsOf}
 use Rattle.roots.proofs.Sets.{insert-cases, insertAll-length, sorted-length}
 
@@ -223,10 +222,3 @@ tried-not-below a b c d answer = every-sorted NotBelow0 (rootsOf a b c d answer)
 
 pub tried-fit : (a b c d : Float) (answer : RootAnswer) → AnswerFits answer → Every Fits64 (sortedOf (rootsOf a b c d answer))
 tried-fit a b c d answer h = every-sorted Fits64 (rootsOf a b c d answer) (roots-fit a b c d answer h)
-
--- ---- the places of a set that holds the numbers of a list
-pub places-length : (l : List Float) → length (placesOf l .«data») ≡ 4
-places-length l = simp (length-take, length-append) (omega arith)
-
-pub place-at : (l : List Float) → length l ≤ 4 → (i : ℕ) (z : Float) → i < length l → getD (placesOf l .«data») i z ≡ getD l i z
-place-at l h i z k = getD-take 4 (l ++ (#0 ∷ #0 ∷ #0 ∷ #0 ∷ [])) i z (omega arith) ∙ List·getD-append l (#0 ∷ #0 ∷ #0 ∷ #0 ∷ []) z i k
