@@ -21,5 +21,15 @@ unfolding encodeOf writtenOf
 written n bytes lent e = by (leb n (length lent)) refl
   where
     by : (b : Bool) → leb n (length lent) ≡ b → encodeOf bytes lent ≡ writtenOf n bytes lent
-    by true h = rw (h, le-ltb (length lent / 2) (length bytes) (enough (length bytes) (length lent) n e (leb-true n (length lent) h)))
-    by false h = rw (h, lt-ltb (length lent / 2) (length bytes) (few (length bytes) (length lent) n e (leb-false n (length lent) h)))
+    by true h =
+        rw (
+          h,
+          le-ltb (length lent / 2) (length bytes)
+              (enough (length bytes) (length lent) n e (leb-true n (length lent) h)),
+        )
+    by false h =
+        rw (
+          h,
+          lt-ltb (length lent / 2) (length bytes)
+              (few (length bytes) (length lent) n e (leb-false n (length lent) h)),
+        )
