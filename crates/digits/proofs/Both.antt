@@ -58,7 +58,9 @@ module _ (line : List ℕ) (at : ℕ) where
     sum-fits h v e = let k = below-60 h in let l : v < 16 = rw e (value-lt c) in omega arith
 
     split : i < 16 → drop i characters ≡ c ∷ drop (i + 1) characters
-    split h = let k : i < length characters = omega (arith, sixteen) in rw (add-one, drop-cons characters i 0) (rw (getD-take, getD-drop))
+    split h =
+        let k : i < length characters = omega (arith, sixteen) in
+        rw (add-one, drop-cons characters i 0) (rw (getD-take, getD-drop))
 
     small-next : {v : ℕ} → word < 16 ^ i → v < 16 → 16 * word + v < 16 ^ (i + 1)
     small-next h k = rw (add-one, pow-succ') (omega arith)
@@ -70,7 +72,11 @@ module _ (line : List ℕ) (at : ℕ) where
           count = omega arith;
           small = small-next (r .small) (rw ev (value-lt c));
           bits = rw ev (ap (after word) (sym (split h)) ∙ r .bits);
-          digits = rw eo (and-assoc ok (isDigit c) (allDigits (drop (i + 1) characters)) ∙ ap (λ (l : List ℕ). ok && allDigits l) (sym (split h)) ∙ r .digits);
+          digits =
+              rw eo
+              (and-assoc ok (isDigit c) (allDigits (drop (i + 1) characters))
+              ∙ ap (λ (l : List ℕ). ok && allDigits l) (sym (split h))
+              ∙ r .digits);
         }
 
     pub done : 16 ≤ i → record { ok = ok; x = ofBits binary64 word } ≡ readOf line at
@@ -89,5 +95,6 @@ module _ (line : List ℕ) (at : ℕ) where
         whole : word ≡ after 0 characters
         whole = ap (after word) (sym none) ∙ r .bits
 
-pub written : (bytes is left lent : List ℕ) (ok : Bool) → bytes ≡ is → record { ok = ok; left = left } ≡ encodeOf bytes lent → left ≡ encodeOf is lent .left
+pub written : (bytes is left lent : List ℕ) (ok : Bool) → bytes ≡ is
+    → record { ok = ok; left = left } ≡ encodeOf bytes lent → left ≡ encodeOf is lent .left
 written bytes is left lent ok e f = ap (λ (d : Filled). d .left) (f ∙ ap (λ (b : List ℕ). encodeOf b lent) e)

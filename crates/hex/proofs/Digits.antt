@@ -33,7 +33,8 @@ below false false x y f g = omega arith
 
 pub value-lt : (c : ℕ) → valueOf c < 16
 value-lt c =
-    below (isDecimal c) (isLetter c) (c - 48) (c - 55) (λ h. decimal (to-high 48 57 c h)) (λ h. letter (to-high 65 70 c h))
+    below (isDecimal c) (isLetter c) (c - 48) (c - 55) (λ h. decimal (to-high 48 57 c h))
+    (λ h. letter (to-high 65 70 c h))
   where
     decimal : c ≤ 57 → c - 48 < 16
     decimal h = omega arith

@@ -64,10 +64,12 @@ larger-le m x b = by (ltb m x) refl
 
 -- one character more
 pub one-more : (m u c : ℕ) → c < 0x100
-    → leb (cond (ltb m ((c + 208) % 0x100)) ((c + 208) % 0x100) m) 22 && leb (cond (ltb u ((c + 191) % 0x100)) ((c + 191) % 0x100) u) 248
+    → leb (cond (ltb m ((c + 208) % 0x100)) ((c + 208) % 0x100) m) 22
+    && leb (cond (ltb u ((c + 191) % 0x100)) ((c + 191) % 0x100) u) 248
     ≡ (leb m 22 && leb u 248) && isDigit c
 one-more m u c h =
-    rw (larger-le m ((c + 208) % 0x100) 22, larger-le u ((c + 191) % 0x100) 248, ← only-digits c h) (swapped (leb m 22) (leb ((c + 208) % 0x100) 22) (leb u 248) (leb ((c + 191) % 0x100) 248))
+    rw (larger-le m ((c + 208) % 0x100) 22, larger-le u ((c + 191) % 0x100) 248, ← only-digits c h)
+    (swapped (leb m 22) (leb ((c + 208) % 0x100) 22) (leb u 248) (leb ((c + 191) % 0x100) 248))
   where
     swapped : (a b c d : Bool) → (a && b) && (c && d) ≡ (a && c) && (b && d)
     swapped true true c d = refl

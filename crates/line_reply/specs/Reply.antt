@@ -1,5 +1,6 @@
--- The replies: of kinds 00 to 05 the verdict and the whole record, in 364 bytes; of kinds 06 and 07 two quartics, in 114. Definitions only.
-use mathlib.Core.Bool.{Bool, true, false, cond}
+-- The replies: of kinds 00 to 05 the verdict and the whole record, in 364 bytes; of kinds 06 and 07 two quartics, in
+-- 114. Definitions only.
+use mathlib.Core.Bool.{true, false, cond}
 use mathlib.Core.List.{List, [], _∷_, _++_}
 use Prim.Native.Nat.{ℕ}
 use lib.Dec.{leb}
@@ -50,7 +51,9 @@ quarticBytesOf a b c d =
 abbrev pub quarticBytes : List Float → List ℕ
 quarticBytes p = quarticBytesOf (getD p 0 nan) (getD p 1 nan) (getD p 2 nan) (getD p 3 nan)
 
--- A reply of n characters goes into the first lent places; where these are fewer than n the answer is no, and they stay as they came.
+-- A reply of n characters goes into the first lent places; where these are fewer than n the answer is no, and they stay
+-- as they came.
 unfoldable pub writtenOf : ℕ → List ℕ → List ℕ → Filled
 writtenOf n bytes lent =
-    cond (leb n (length lent)) (record { ok = true; left = fill (hexOf bytes) lent }) (record { ok = false; left = lent })
+    cond (leb n (length lent)) (record { ok = true; left = fill (hexOf bytes) lent })
+    (record { ok = false; left = lent })
