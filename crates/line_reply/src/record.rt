@@ -41,7 +41,10 @@ fn put_rows(
     p: &[f64; 8],
 )
     requires { ⌜ length (now bytes) ≡ 364 ⌝ }
-    ensures { λ _. ⌜ now (bytes .exit) ≡ take 4 (now (bytes .entry)) ++ rowsOf (now (t .entry)) (now («t_sum» .entry)) (now (j .entry)) (now (a .entry)) (now (v .entry)) (now (p .entry)) ⌝ }
+    ensures { λ _. ⌜ now (bytes .exit)
+        ≡ take 4 (now (bytes .entry))
+        ++ rowsOf (now (t .entry)) (now («t_sum» .entry)) (now (j .entry)) (now (a .entry)) (now (v .entry))
+        (now (p .entry)) ⌝ }
 {
     put_row(bytes, 4, t);
     put_row(bytes, 60, t_sum);
@@ -62,7 +65,9 @@ pub fn put_record(
     p: &[f64; 8],
 )
     requires { ⌜ length (now bytes) ≡ 364 ⌝ }
-    ensures { λ _. ⌜ now (bytes .exit) ≡ headOf answer ++ rowsOf (now (t .entry)) (now («t_sum» .entry)) (now (j .entry)) (now (a .entry)) (now (v .entry)) (now (p .entry)) ⌝ }
+    ensures { λ _. ⌜ now (bytes .exit)
+        ≡ headOf answer ++ rowsOf (now (t .entry)) (now («t_sum» .entry)) (now (j .entry)) (now (a .entry))
+        (now (v .entry)) (now (p .entry)) ⌝ }
 {
     put_head(bytes, answer);
     put_rows(bytes, t, t_sum, j, a, v, p);

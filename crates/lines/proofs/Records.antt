@@ -1,4 +1,5 @@
--- The record that a line's arrays hold, and the reply to it: from what `check` or a shape in place answers on the line's numbers.
+-- The record that a line's arrays hold, and the reply to it:
+-- from what `check` or a shape in place answers on the line's numbers.
 -- Assumes nothing.
 use mathlib.Core.Path.{_≡_, refl, _∙_}
 use mathlib.Core.List.{List, [], _∷_, _++_}
@@ -32,7 +33,8 @@ started t p0 v0 a0 goal l = profileOf t zeros zeros (record { a = a0 ∷ zeros; 
 
 -- what the arrays hold afterwards
 abbrev ended : (t s j a v p : List Float) → Goal → Verdict → Checked
-ended t s j a v p goal r = record { ok = r .ok; profile = profileOf t s j (record { a = a; v = v; p = p }) goal (r .labels) }
+ended t s j a v p goal r =
+    record { ok = r .ok; profile = profileOf t s j (record { a = a; v = v; p = p }) goal (r .labels) }
 
 module _ (t s j a v p : List Float) (goal : Goal) (r : Verdict) where
   replied : (c : Checked) → ended t s j a v p goal r ≡ c → headOf r ++ rowsOf t s j a v p ≡ replyBytesOf c

@@ -65,7 +65,8 @@ module _ {t : ℕ → Float} {x : Times} (a : Accepted t x) {jf : Float} {j : �
       (val (neg jf)) (val #0) (here 0 (lit≤ tt) jf (h .plus)) (here 1 (lit≤ tt) #0 (h .none))
       (here 2 (lit≤ tt) (neg jf) (h .minus)) (neg-same jf) zero-none
     where
-      here : (i : ℕ) → i < 7 → (y : Float) → j i ≡ recordedJerk (t i) y → Same (val (t i) ⊠ val (j i)) (val (t i) ⊠ val y)
+      here : (i : ℕ) → i < 7 → (y : Float) → j i ≡ recordedJerk (t i) y
+          → Same (val (t i) ⊠ val (j i)) (val (t i) ⊠ val y)
       here i l y e = jerk-same (t i) y (j i) (a .held i l) (a .finite i l) (a .above i l) e
 
       times : (t x y : D) → Same x y → Same (t ⊠ x) (t ⊠ y)
