@@ -1,10 +1,11 @@
 -- What the line entry answers: a number, what the lent places hold after it, and how many are filled. Definitions only.
-use mathlib.Core.Bool.{cond}
+use mathlib.Core.Bool.{Bool, cond}
 use mathlib.Core.List.{List, [], _∷_, _++_}
 use Prim.Native.Nat.{ℕ}
 use lib.Dec.{eqb, leb}
 use lib.ListN.{length}
 use Rattle.hex.specs.Hex.{bytesOf, hexOf, fill}
+use Rattle.step2_solver.specs.declared.Shape.{Shape}
 use Rattle.line_kinds.specs.declared.Asks.{Asks}
 use Rattle.line_kinds.specs.declared.Asks.the-variants.{NoKind, OfCheck, OfShape, OfQuartics}
 use Rattle.line_kinds.specs.Kinds.{placesOf, rowOf}
@@ -25,6 +26,10 @@ replyOf NoKind at = []
 replyOf OfCheck at = replyBytesOf (checkLineOf at)
 replyOf (OfShape shape) at = replyBytesOf (shapeLineOf shape at)
 replyOf (OfQuartics shape) at = quarticLineOf shape at
+
+-- a line of twelve numbers asks the quartics of a shape, or the shape
+abbrev pub ofShape : Bool → Shape → Asks
+ofShape quartics shape = cond quartics (OfQuartics shape) (OfShape shape)
 
 -- 0, with the reply's characters in the first lent places;
 -- or the number of the first question with a no, and the places as they came

@@ -2,10 +2,14 @@
 use mathlib.Core.List.{List, _++_}
 use Prim.Native.Nat.{ℕ}
 use Rattle.step2_solver.specs.declared.Shape.{Shape}
+use Rattle.step2_solver_quartic.specs.declared.Quartics.{Quartics}
 use Rattle.line_frame.specs.Frame.{Frame}
 use Rattle.line_questions.specs.Questions.{quarticsAt}
 use Rattle.line_reply.specs.Reply.{quarticBytes}
 
 -- the bytes of the reply: UDDU's quartic, then UDUD's
-unfoldable pub quarticLineOf : Shape → Frame → List ℕ
-quarticLineOf shape at = quarticBytes (quarticsAt shape at .uddu) ++ quarticBytes (quarticsAt shape at .udud)
+unfoldable pub bothBytes : Quartics → List ℕ
+bothBytes q = quarticBytes (q .uddu) ++ quarticBytes (q .udud)
+
+abbrev pub quarticLineOf : Shape → Frame → List ℕ
+quarticLineOf shape at = bothBytes (quarticsAt shape at)

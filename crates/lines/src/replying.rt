@@ -1,6 +1,5 @@
 // The answer to a frame of the length of its kind, by what it asks.
 use super::check_line::check_line;
-use super::quartic_line::quartic_line;
 use super::shape_line::shape_line;
 use line_kinds::Asks;
 use line_kinds::FRAME;
@@ -15,7 +14,7 @@ pub fn reply_to(asks: Asks, frame: &[u8; FRAME], reply: &mut [u8]) -> u32
     match asks {
         Asks::NoKind => 0,
         Asks::OfCheck => check_line(frame, reply),
-        Asks::OfShape(shape) => shape_line(shape, frame, reply),
-        Asks::OfQuartics(shape) => quartic_line(shape, frame, reply),
+        Asks::OfShape(shape) => shape_line(false, shape, frame, reply),
+        Asks::OfQuartics(shape) => shape_line(true, shape, frame, reply),
     }
 }

@@ -1,13 +1,15 @@
-// Kinds 01 to 05: a shape on a default profile after `set_boundary`.
+// Kinds 01 to 05: a shape on a default profile after `set_boundary`; kinds 06 and 07: the quartics of a shape.
 // The twelve numbers, the solver and the quartics are worked out once.
 use labels::start_labels;
 use line_frame::first_answer;
 use line_frame::move_numbers;
 use line_frame::second_answer;
 use line_kinds::FRAME;
+use line_kinds::QUARTICS;
 use line_kinds::RECORD;
 use line_questions::counts_fit;
 use line_questions::counts_suit;
+use line_reply::write_quartics;
 use line_reply::write_record;
 use position_third_step2::in_place::ask;
 use profile::in_place::Goal;
@@ -19,16 +21,18 @@ use step2_solver::Shape;
 use step2_solver_quartic::Quartics;
 use step2_solver_quartic::quartics_of;
 ghost use mathlib.Core.Path.{_≡_};
+ghost use mathlib.Core.Bool.{true, cond};
 ghost use Prim.Native.Nat.{_≤_};
 ghost use lib.ListN.{length};
 ghost use Rattle.hex.specs.Hex.{hexOf, fill};
 ghost use Rattle.position_third_step2.specs.Shape.{shapeOf};
-ghost use Rattle.line_kinds.specs.declared.Asks.the-variants.{OfShape};
-ghost use Rattle.line_kinds.specs.Kinds.{recordPlaces};
+ghost use Rattle.line_kinds.specs.Kinds.{recordPlaces, quarticsPlaces};
 ghost use Rattle.line_frame.specs.Frame.{byteAt};
+ghost use Rattle.line_questions.specs.Questions.{countsFit};
 ghost use Rattle.line_reply.specs.Reply.{replyBytesOf};
+ghost use Rattle.lines.specs.QuarticLine.{bothBytes};
 ghost use Rattle.lines.specs.ShapeLine.{startOf};
-ghost use Rattle.lines.specs.Answer.{Answer, frameAnswerOf};
+ghost use Rattle.lines.specs.Answer.{Answer, ofShape, frameAnswerOf};
 
 // The reply, of numbers that are read and worked out.
 fn shape_reply(
@@ -75,11 +79,28 @@ fn shape_reply(
     write_record(reply, answer, &t, &t_sum, &j, &a, &v, &p);
 }
 
-pub fn shape_line(shape: Shape, frame: &[u8; FRAME], reply: &mut [u8]) -> u32
-    ensures { λ r. ⌜ record { number = r; places = now (reply .exit) }
-        ≡ frameAnswerOf (OfShape shape) (byteAt (now (frame .entry))) (now (reply .entry)) ⌝ }
+// Question 5, which has nothing to ask of a line that asks for the quartics alone.
+fn answers_fit(quartics: bool, shape: Shape, frame: &[u8; FRAME]) -> bool
+    ensures { λ r. ⌜ r ≡ cond quartics true (countsFit shape (byteAt (now (frame .entry)))) ⌝ }
 {
-    if !counts_fit(shape, frame) {
+    if quartics { true } else { counts_fit(shape, frame) }
+}
+
+fn quartics_reply(q: Quartics, reply: &mut [u8])
+    requires { ⌜ quarticsPlaces ≤ length (now reply) ⌝ }
+    ensures { λ _. ⌜ now (reply .exit) ≡ fill (hexOf (bothBytes q)) (now (reply .entry)) ⌝ }
+{
+    let uddu = q.uddu;
+    let udud = q.udud;
+    write_quartics(reply, uddu, udud);
+}
+
+// A line of twelve numbers: it asks a shape, or the quartics of one.
+pub fn shape_line(quartics: bool, shape: Shape, frame: &[u8; FRAME], reply: &mut [u8]) -> u32
+    ensures { λ r. ⌜ record { number = r; places = now (reply .exit) }
+        ≡ frameAnswerOf (ofShape quartics shape) (byteAt (now (frame .entry))) (now (reply .entry)) ⌝ }
+{
+    if !answers_fit(quartics, shape, frame) {
         return 5;
     }
     let m = move_numbers(frame);
@@ -90,6 +111,13 @@ pub fn shape_line(shape: Shape, frame: &[u8; FRAME], reply: &mut [u8]) -> u32
     let s = x.solver();
     let l = x.limits();
     let q = quartics_of(shape, s, l);
+    if quartics {
+        if reply.len() < QUARTICS {
+            return 8;
+        }
+        quartics_reply(q, reply);
+        return 0;
+    }
     if !counts_suit(shape, q, frame) {
         return 7;
     }

@@ -9,7 +9,6 @@ use Rattle.line_kinds.specs.declared.Asks.the-variants.{OfCheck}
 use Rattle.line_kinds.specs.Kinds.{recordPlaces}
 use Rattle.line_frame.specs.Frame.{byteAt}
 use Rattle.line_frame.specs.Numbers.{checkFinite}
-use Rattle.line_frame.proofs.Finite.{check-read, check-unread}
 use Rattle.line_questions.specs.Questions.{ask, choicesFit, questionsOf}
 use Rattle.lines.specs.Answer.{replyOf, frameAnswerOf}
 use Rattle.lines.proofs.Replies.{refused, replied}
@@ -28,29 +27,28 @@ returns c =
 returns-2 : tie.Need-returns-2
 unfolding frameAnswerOf questionsOf
 returns-2 c =
-    let m = c .before .before in
-    let i1 = m .before in
+    let n = c .before in
+    let i1 = n .before in
     let f = i1 .before in
     let q = f .before .before .args in
     let at = byteAt (q .frame .now) in
     refused _ (q .reply .now) (ask 5 (choicesFit at) ∷ []) 6 _
     (sym (f .choices-fit .ensures) ∙ not-false (f .choices-fit .result) (i1 .if1 .left), tt)
-    (check-unread at (m .check-numbers .result) (m .check-numbers .ensures) (not-true _ (c .if2 .taken)))
+    (sym (n .check-finite .ensures) ∙ not-true (n .check-finite .result) (c .if2 .taken))
     (λ e. omega arith)
 
 returns-3 : tie.Need-returns-3
 unfolding frameAnswerOf questionsOf
 returns-3 c =
     let i2 = c .before in
-    let m = i2 .before .before in
-    let i1 = m .before in
+    let n = i2 .before in
+    let i1 = n .before in
     let f = i1 .before in
     let q = f .before .before .args in
     let at = byteAt (q .frame .now) in
-    refused _ (q .reply .now) (ask 5 (choicesFit at) ∷ ask 6 (checkFinite at) ∷ []) 8 _ (
-      sym (f .choices-fit .ensures) ∙ not-false (f .choices-fit .result) (i1 .if1 .left),
-      (check-read at (m .check-numbers .result) (m .check-numbers .ensures) (not-false _ (i2 .if2 .left)) .0, tt),
-    )
+    refused _ (q .reply .now) (ask 5 (choicesFit at) ∷ ask 6 (checkFinite at) ∷ []) 8 _
+    (sym (f .choices-fit .ensures) ∙ not-false (f .choices-fit .result) (i1 .if1 .left),
+    (sym (n .check-finite .ensures) ∙ not-false (n .check-finite .result) (i2 .if2 .left), tt))
     (lt-leb recordPlaces (length (q .reply .now)) (c .if3 .taken))
     (λ e. omega arith)
 
@@ -58,20 +56,20 @@ returns-4 : tie.Need-returns-4
 unfolding frameAnswerOf questionsOf replyOf
 returns-4 c =
     let k = c .before .before in
-    let i3 = k .before .before .before in
+    let x = k .before .before in
+    let i3 = x .before in
     let i2 = i3 .before in
-    let m = i2 .before .before in
-    let i1 = m .before in
+    let n = i2 .before in
+    let i1 = n .before in
     let f = i1 .before in
     let q = f .before .before .args in
     let at = byteAt (q .frame .now) in
-    let r = check-read at (m .check-numbers .result) (m .check-numbers .ensures) (not-false _ (i2 .if2 .left)) in
-    replied (replyOf OfCheck at) (q .reply .now) _ (
-      sym (f .choices-fit .ensures) ∙ not-false (f .choices-fit .result) (i1 .if1 .left),
-      (r .0, (le-leb recordPlaces (length (q .reply .now)) (i3 .if3 .left), tt)),
-    )
+    replied (replyOf OfCheck at) (q .reply .now) _
+    (sym (f .choices-fit .ensures) ∙ not-false (f .choices-fit .result) (i1 .if1 .left),
+    (sym (n .check-finite .ensures) ∙ not-false (n .check-finite .result) (i2 .if2 .left),
+    (le-leb recordPlaces (length (q .reply .now)) (i3 .if3 .left), tt)))
     _
-    (k .check-reply .ensures ∙ rw (r .1))
+    (k .check-reply .ensures ∙ rw (x .check-numbers .ensures))
 
 pub check-line-spec : {M : Type 1} → statement M
 check-line-spec =
@@ -82,6 +80,7 @@ check-line-spec =
     (λ c κs. search needs)
     returns-2
     returns-3
+    (λ c κs. search needs)
     (λ c κs. search needs)
     (λ c. search needs)
     returns-4)

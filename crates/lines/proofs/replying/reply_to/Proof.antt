@@ -32,7 +32,7 @@ returns-3 c =
 returns-4 : tie.Need-returns-4
 returns-4 c =
     let k = c .before .before in
-    rw (k .before .before .before .asks2 .given .1) (k .quartic-line .ensures)
+    rw (k .before .before .before .asks2 .given .1) (k .shape-line2 .ensures)
 
 pub reply-to-spec : {M : Type 1} → statement M
 reply-to-spec =

@@ -1,0 +1,97 @@
+-- The ways out of a line of twelve numbers, which asks a shape or its quartics: from what each test says. Assumes nothing.
+use mathlib.Core.Path.{_≡_, refl, sym}
+use mathlib.Core.Bool.{Bool, true, false, cond, true≢false}
+use mathlib.Core.List.{List, [], _∷_}
+use Prim.Native.Nat.{ℕ, _≤_, _<_}
+use native.Mathlib.Omega.{arith}
+use lib.ListN.{length}
+use borrow.Author.Tests.{le-leb, lt-leb}
+use Rattle.hex.specs.Hex.{hexOf, fill}
+use Rattle.step2_solver.specs.declared.Shape.{Shape}
+use Rattle.line_kinds.specs.declared.Asks.the-variants.{OfShape, OfQuartics}
+use Rattle.line_kinds.specs.Kinds.{recordPlaces, quarticsPlaces}
+use Rattle.line_frame.specs.Frame.{Frame}
+use Rattle.line_frame.specs.Numbers.{moveFinite}
+use Rattle.line_questions.specs.Questions.{ask, countsFit, countsSuit, quarticsAt, questionsOf}
+use Rattle.line_reply.specs.Reply.{replyBytesOf}
+use Rattle.lines.specs.ShapeLine.{shapeLineOf}
+use Rattle.lines.specs.QuarticLine.{quarticLineOf}
+use Rattle.lines.specs.Answer.{Answer, replyOf, ofShape, frameAnswerOf}
+use Rattle.lines.proofs.Replies.{refused, replied}
+
+module _ (shape : Shape) (at : Frame) (lent : List ℕ) where
+  abbrev Is : Bool → ℕ → List ℕ → Type 0
+  Is quartics n places = _≡_ {A = Answer} (record { number = n; places = places }) (frameAnswerOf (ofShape quartics shape) at lent)
+
+  abbrev fits : Bool → Bool
+  fits quartics = cond quartics true (countsFit shape at)
+
+  pub fifth : (quartics : Bool) → fits quartics ≡ false → Is quartics 5 lent
+  unfolding frameAnswerOf questionsOf
+  fifth true h = absurd (true≢false h)
+  fifth false h = refused _ lent [] 5 _ tt h (λ e. omega arith)
+
+  pub sixth : (quartics : Bool) → fits quartics ≡ true → moveFinite at ≡ false → Is quartics 6 lent
+  unfolding frameAnswerOf questionsOf
+  sixth true h k = refused _ lent [] 6 _ tt k (λ e. omega arith)
+  sixth false h k = refused _ lent (ask 5 (countsFit shape at) ∷ []) 6 _ (h, tt) k (λ e. omega arith)
+
+  module _ (finite : moveFinite at ≡ true) where
+    -- ---- the quartics
+    pub quartics-eighth : (quartics : Bool) → quartics ≡ true → length lent < quarticsPlaces → Is quartics 8 lent
+    unfolding frameAnswerOf questionsOf
+    quartics-eighth false h l = absurd (true≢false (sym h))
+    quartics-eighth true h l =
+        refused _ lent (ask 6 (moveFinite at) ∷ []) 8 _ (finite, tt) (lt-leb quarticsPlaces (length lent) l) (λ e. omega arith)
+
+    pub quartics-all : (quartics : Bool) → quartics ≡ true → quarticsPlaces ≤ length lent
+        → (reply : List ℕ) → reply ≡ fill (hexOf (quarticLineOf shape at)) lent → Is quartics 0 reply
+    unfolding frameAnswerOf questionsOf replyOf
+    quartics-all false h l reply e = absurd (true≢false (sym h))
+    quartics-all true h l reply e =
+        replied (replyOf (OfQuartics shape) at) lent _ (finite, (le-leb quarticsPlaces (length lent) l, tt)) reply e
+
+    -- ---- the shape
+    module _ (quartics : Bool) (q : quartics ≡ false) (h : fits quartics ≡ true) where
+      counts : countsFit shape at ≡ true
+      counts = by quartics q h
+        where
+          by : (b : Bool) → b ≡ false → cond b true (countsFit shape at) ≡ true → countsFit shape at ≡ true
+          by true e k = absurd (true≢false e)
+          by false e k = k
+
+      shape-is : (n : ℕ) (places : List ℕ) → Is false n places → Is quartics n places
+      shape-is n places e = rw q e
+
+      pub seventh : countsSuit shape (quarticsAt shape at) at ≡ false → Is quartics 7 lent
+      unfolding frameAnswerOf questionsOf
+      seventh k =
+          shape-is 7 lent
+          (refused _ lent (ask 5 (countsFit shape at) ∷ ask 6 (moveFinite at) ∷ []) 7 _ (counts, (finite, tt)) k
+          (λ e. omega arith))
+
+      module _ (suits : countsSuit shape (quarticsAt shape at) at ≡ true) where
+        pub eighth : length lent < recordPlaces → Is quartics 8 lent
+        unfolding frameAnswerOf questionsOf
+        eighth l =
+            shape-is 8 lent
+            (refused _ lent
+            (ask 5 (countsFit shape at)
+            ∷ ask 6 (moveFinite at)
+            ∷ ask 7 (countsSuit shape (quarticsAt shape at) at)
+            ∷ [])
+            8
+            _
+            (counts, (finite, (suits, tt)))
+            (lt-leb recordPlaces (length lent) l)
+            (λ e. omega arith))
+
+        pub all : recordPlaces ≤ length lent → (reply : List ℕ)
+            → reply ≡ fill (hexOf (replyBytesOf (shapeLineOf shape at))) lent → Is quartics 0 reply
+        unfolding frameAnswerOf questionsOf replyOf
+        all l reply e =
+            shape-is 0 reply
+            (replied (replyOf (OfShape shape) at) lent _
+            (counts, (finite, (suits, (le-leb recordPlaces (length lent) l, tt))))
+            reply
+            e)
