@@ -4,8 +4,8 @@
 use bench_labels::answer_number;
 use labels::start_labels;
 use profile::Profile;
-use profile::in_place::Answer;
 use profile::in_place::Goal;
+use profile::in_place::Verdict;
 ghost use mathlib.Core.Path.{_≡_};
 ghost use Rattle.bench_labels.specs.Lent.{checkLentOf};
 
@@ -70,7 +70,7 @@ pub extern "C" fn bench_check_by_value(
     *a = next_a;
     *v = next_v;
     *p = next_p;
-    answer_number(Answer {
+    answer_number(Verdict {
         ok: checked.ok,
         labels: next.labels(),
     })

@@ -2,10 +2,10 @@
 use mathlib.Core.Bool.{cond}
 use Prim.Native.Nat.{ℕ, _+_, _*_}
 use Rattle.labels.specs.Labels.{labelNumber, directionNumber, signsNumber}
-use Rattle.profile.specs.declared.in_place.Answer.{Answer}
+use Rattle.profile.specs.declared.in_place.Verdict.{Verdict}
 
 -- verdict (1 yes), direction, signs and label, as the digits of a number of the bases 2, 2, 2 and 8
-abbrev pub answerNumber : Answer → ℕ
+abbrev pub answerNumber : Verdict → ℕ
 answerNumber r =
     cond (r .ok) 1 0
     + 2 * directionNumber (r .labels .direction)

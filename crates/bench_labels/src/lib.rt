@@ -2,7 +2,7 @@
 use labels::direction_number;
 use labels::label_number;
 use labels::signs_number;
-use profile::in_place::Answer;
+use profile::in_place::Verdict;
 ghost use mathlib.Core.Path.{_≡_};
 ghost use mathlib.Core.Bool.{cond};
 ghost use Prim.Native.Nat.{_<_};
@@ -15,7 +15,7 @@ fn verdict_number(ok: bool) -> u32
     if ok { 1 } else { 0 }
 }
 
-pub fn answer_number(answer: Answer) -> u32
+pub fn answer_number(answer: Verdict) -> u32
     ensures { λ r. ⌜ r ≡ answerNumber answer ⌝ }
 {
     let labels = answer.labels;

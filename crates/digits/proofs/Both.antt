@@ -1,49 +1,19 @@
 -- The sixteen characters of a number, as they are read and as they are written. Assumes nothing.
 use mathlib.Core.Path.{_≡_, refl, ap, sym, _∙_}
-use mathlib.Core.Bool.{Bool, true, false, cond, _&&_, and-true, true≢false, and-assoc}
+use mathlib.Core.Bool.{Bool, true, false, _&&_, and-true, and-assoc}
 use mathlib.Core.List.{List, [], _∷_}
 use Prim.Native.Nat.{ℕ, _+_, _-_, _*_, _^_, _<_, _≤_}
 use native.Mathlib.Nat.{pow-le-pow-right, pow-succ', lt-of-lt-of-le}
 use native.Mathlib.Numerals.{add-one}
 use native.Mathlib.Omega.{arith}
-use lib.Dec.{ltb, leb}
+use lib.Dec.{ltb}
 use lib.ListN.{length, take, drop, getD, length-take, length-drop}
 use lib.Seq.{drop-cons, drop-length, getD-take, getD-drop}
 use lib.Ieee.{binary64, ofBits}
-use borrow.Author.Tests.{le-ltb, lt-ltb, ltb-true, ltb-false, leb-true}
-use Rattle.hex.specs.Hex.{Filled, isDecimal, isLetter, isDigit, allDigits, valueOf, encodeOf}
+use borrow.Author.Tests.{le-ltb, lt-ltb, ltb-true, ltb-false}
+use Rattle.hex.specs.Hex.{Filled, isDigit, allDigits, valueOf, encodeOf}
+use Rattle.hex.proofs.Digits.{value-lt}
 use Rattle.digits.specs.Digits.{after, readOf}
-
--- ---- one character
-and-left : (a b : Bool) → a && b ≡ true → a ≡ true
-and-left true b h = refl
-and-left false b h = h
-
-and-right : (a b : Bool) → a && b ≡ true → b ≡ true
-and-right true b h = h
-and-right false b h = absurd (true≢false (sym h))
-
--- the two ends of a test of a range
-pub low : (l u c : ℕ) → leb l c && leb c u ≡ true → l ≤ c
-low l u c h = leb-true l c (and-left (leb l c) (leb c u) h)
-
-high : (l u c : ℕ) → leb l c && leb c u ≡ true → c ≤ u
-high l u c h = leb-true c u (and-right (leb l c) (leb c u) h)
-
-below : (p q : Bool) (x y : ℕ) → (p ≡ true → x < 16) → (q ≡ true → y < 16) → cond p x (cond q y 0) < 16
-below true q x y f g = f refl
-below false true x y f g = g refl
-below false false x y f g = omega arith
-
-pub value-lt : (c : ℕ) → valueOf c < 16
-value-lt c =
-    below (isDecimal c) (isLetter c) (c - 48) (c - 55) (λ h. decimal (high 48 57 c h)) (λ h. letter (high 65 70 c h))
-  where
-    decimal : c ≤ 57 → c - 48 < 16
-    decimal h = omega arith
-
-    letter : c ≤ 70 → c - 55 < 16
-    letter h = omega arith
 
 -- ---- a place of a line
 module _ (line : List ℕ) (at : ℕ) where
@@ -88,7 +58,9 @@ module _ (line : List ℕ) (at : ℕ) where
     sum-fits h v e = let k = below-60 h in let l : v < 16 = rw e (value-lt c) in omega arith
 
     split : i < 16 → drop i characters ≡ c ∷ drop (i + 1) characters
-    split h = let k : i < length characters = omega (arith, sixteen) in rw (add-one, drop-cons characters i 0) (rw (getD-take, getD-drop))
+    split h =
+        let k : i < length characters = omega (arith, sixteen) in
+        rw (add-one, drop-cons characters i 0) (rw (getD-take, getD-drop))
 
     small-next : {v : ℕ} → word < 16 ^ i → v < 16 → 16 * word + v < 16 ^ (i + 1)
     small-next h k = rw (add-one, pow-succ') (omega arith)
@@ -100,7 +72,11 @@ module _ (line : List ℕ) (at : ℕ) where
           count = omega arith;
           small = small-next (r .small) (rw ev (value-lt c));
           bits = rw ev (ap (after word) (sym (split h)) ∙ r .bits);
-          digits = rw eo (and-assoc ok (isDigit c) (allDigits (drop (i + 1) characters)) ∙ ap (λ (l : List ℕ). ok && allDigits l) (sym (split h)) ∙ r .digits);
+          digits =
+              rw eo
+              (and-assoc ok (isDigit c) (allDigits (drop (i + 1) characters))
+              ∙ ap (λ (l : List ℕ). ok && allDigits l) (sym (split h))
+              ∙ r .digits);
         }
 
     pub done : 16 ≤ i → record { ok = ok; x = ofBits binary64 word } ≡ readOf line at
@@ -119,5 +95,6 @@ module _ (line : List ℕ) (at : ℕ) where
         whole : word ≡ after 0 characters
         whole = ap (after word) (sym none) ∙ r .bits
 
-pub written : (bytes is left lent : List ℕ) (ok : Bool) → bytes ≡ is → record { ok = ok; left = left } ≡ encodeOf bytes lent → left ≡ encodeOf is lent .left
+pub written : (bytes is left lent : List ℕ) (ok : Bool) → bytes ≡ is
+    → record { ok = ok; left = left } ≡ encodeOf bytes lent → left ≡ encodeOf is lent .left
 written bytes is left lent ok e f = ap (λ (d : Filled). d .left) (f ∙ ap (λ (b : List ℕ). encodeOf b lent) e)

@@ -1,1 +1,2 @@
+-- Laws of reading a number off its digits and of writing one.
 pub mod Both

@@ -13,8 +13,10 @@ abbrev pub after : ℕ → List ℕ → ℕ
 after w [] = w
 after w (c ∷ cs) = after (16 * w + valueOf c) cs
 
--- Whether the sixteen characters from a place on are digits, and the f64 whose bits they are. No, and 0, where they are fewer.
+-- Whether the sixteen characters from a place on are digits, and the f64 whose bits they are.
+-- No, and 0, where they are fewer.
 unfoldable pub readOf : List ℕ → ℕ → Read
 readOf line at =
     let cs = take 16 (drop at line) in
-    cond (ltb (length line) (at + 16)) (record { ok = false; x = ofBits binary64 0 }) (record { ok = allDigits cs; x = ofBits binary64 (after 0 cs) })
+    cond (ltb (length line) (at + 16)) (record { ok = false; x = ofBits binary64 0 })
+    (record { ok = allDigits cs; x = ofBits binary64 (after 0 cs) })

@@ -1,10 +1,11 @@
 // Numbers and bytes in hexadecimal digits, as the stored lists have them.
 use float::from_bits;
 use hex::encode;
+use hex::value;
 use number_bytes::to_be_bytes;
 ghost use mathlib.Core.Path.{_≡_};
 ghost use mathlib.Core.List.{[], _∷_};
-ghost use Rattle.hex.specs.Hex.{isDigit, valueOf, hexOf};
+ghost use Rattle.hex.specs.Hex.{isDigit, hexOf};
 ghost use Rattle.number_bytes.specs.Bytes.{numberBytes};
 ghost use Rattle.digits.specs.Digits.{readOf};
 
@@ -18,18 +19,6 @@ fn is_digit(c: u8) -> bool
     ensures { λ r. ⌜ r ≡ isDigit c ⌝ }
 {
     ((48 <= c) & (c <= 57)) | ((65 <= c) & (c <= 70))
-}
-
-fn value(c: u8) -> u8
-    ensures { λ r. ⌜ r ≡ valueOf c ⌝ }
-{
-    if (48 <= c) & (c <= 57) {
-        return c - 48;
-    }
-    if (65 <= c) & (c <= 70) {
-        return c - 55;
-    }
-    0
 }
 
 // The number in the sixteen characters from a place on.

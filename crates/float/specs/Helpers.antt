@@ -1,6 +1,6 @@
 -- What Rust's `f64::abs`, `min` and `max` give, all NaNs being one. Definitions only.
 -- `is_finite` is `finite` of lib.Ieee.Scale, and the two conversions are `ofBits` and `toBits` of lib.Ieee.
-use mathlib.Core.Bool.{Bool, true, false, cond}
+use mathlib.Core.Bool.{false, cond}
 use lib.Ieee.{Float, nan, inf, fin, lt, isNan}
 
 -- The same magnitude without its sign: of -0 it is +0.

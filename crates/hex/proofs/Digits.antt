@@ -15,10 +15,6 @@ pub and-right : (a b : Bool) → a && b ≡ true → b ≡ true
 and-right true b h = h
 and-right false b h = absurd (true≢false (sym h))
 
-pub or-left : (a b : Bool) → a || b ≡ false → a ≡ false
-or-left true b h = h
-or-left false b h = refl
-
 pub or-right : (a b : Bool) → a || b ≡ false → b ≡ false
 or-right true b h = absurd (true≢false h)
 or-right false b h = h
@@ -37,7 +33,8 @@ below false false x y f g = omega arith
 
 pub value-lt : (c : ℕ) → valueOf c < 16
 value-lt c =
-    below (isDecimal c) (isLetter c) (c - 48) (c - 55) (λ h. decimal (to-high 48 57 c h)) (λ h. letter (to-high 65 70 c h))
+    below (isDecimal c) (isLetter c) (c - 48) (c - 55) (λ h. decimal (to-high 48 57 c h))
+    (λ h. letter (to-high 65 70 c h))
   where
     decimal : c ≤ 57 → c - 48 < 16
     decimal h = omega arith

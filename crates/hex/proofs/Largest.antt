@@ -1,10 +1,10 @@
 -- Digits by the largest of two sums: a character less 48 and less 65, round 256. Assumes nothing.
-use mathlib.Core.Path.{_≡_, refl, sym, subst, _∙_}
+use mathlib.Core.Path.{_≡_, refl, sym, subst}
 use mathlib.Core.Bool.{Bool, true, false, cond, _&&_}
 use Prim.Native.Nat.{ℕ, zero, suc, _+_, _%_, _≤_, _<_}
 use native.Mathlib.Omega.{arith}
 use lib.Dec.{leb, ltb}
-use borrow.Author.Tests.{leb-true, leb-false, le-leb, lt-leb, ltb-true, ltb-false}
+use borrow.Author.Tests.{leb-true, le-leb, ltb-true, ltb-false}
 use Rattle.hex.specs.Hex.{isDigit}
 use Rattle.hex.proofs.Digits.{and-left, and-right}
 
@@ -64,10 +64,12 @@ larger-le m x b = by (ltb m x) refl
 
 -- one character more
 pub one-more : (m u c : ℕ) → c < 0x100
-    → leb (cond (ltb m ((c + 208) % 0x100)) ((c + 208) % 0x100) m) 22 && leb (cond (ltb u ((c + 191) % 0x100)) ((c + 191) % 0x100) u) 248
+    → leb (cond (ltb m ((c + 208) % 0x100)) ((c + 208) % 0x100) m) 22
+    && leb (cond (ltb u ((c + 191) % 0x100)) ((c + 191) % 0x100) u) 248
     ≡ (leb m 22 && leb u 248) && isDigit c
 one-more m u c h =
-    rw (larger-le m ((c + 208) % 0x100) 22, larger-le u ((c + 191) % 0x100) 248, ← only-digits c h) (swapped (leb m 22) (leb ((c + 208) % 0x100) 22) (leb u 248) (leb ((c + 191) % 0x100) 248))
+    rw (larger-le m ((c + 208) % 0x100) 22, larger-le u ((c + 191) % 0x100) 248, ← only-digits c h)
+    (swapped (leb m 22) (leb ((c + 208) % 0x100) 22) (leb u 248) (leb ((c + 191) % 0x100) 248))
   where
     swapped : (a b c d : Bool) → (a && b) && (c && d) ≡ (a && c) && (b && d)
     swapped true true c d = refl

@@ -1,6 +1,6 @@
 -- Characters out and back: the characters of bytes are digits, two a byte, and stand for these bytes. Assumes nothing.
-use mathlib.Core.Path.{_≡_, refl, ap, sym, _∙_}
-use mathlib.Core.Bool.{Bool, true, false, cond, _&&_, _||_}
+use mathlib.Core.Path.{_≡_, refl, ap}
+use mathlib.Core.Bool.{Bool, true, false, cond}
 use mathlib.Core.List.{List, [], _∷_}
 use Prim.Native.Nat.{ℕ, suc, _+_, _-_, _*_, _/_, _%_, _≤_, _<_}
 use native.Mathlib.Omega.{arith}
@@ -29,7 +29,8 @@ letter n l h =
 digit-of : (n : ℕ) → n < 16 → (isDigit (digitOf n) ≡ true) × (valueOf (digitOf n) ≡ n)
 digit-of n h = by (ltb n 10) refl
   where
-    by : (t : Bool) → ltb n 10 ≡ t → (isDigit (cond t (n + 48) (n + 55)) ≡ true) × (valueOf (cond t (n + 48) (n + 55)) ≡ n)
+    by : (t : Bool) → ltb n 10 ≡ t
+        → (isDigit (cond t (n + 48) (n + 55)) ≡ true) × (valueOf (cond t (n + 48) (n + 55)) ≡ n)
     by true e = decimal n (ltb-true n 10 e)
     by false e = letter n (ltb-false n 10 e) h
 
@@ -51,7 +52,8 @@ all-digits (b ∷ bytes) h =
 pub bytes-back : (bytes : List ℕ) → ((i : ℕ) → getD bytes i 0 < 256) → bytesOf (hexOf bytes) ≡ bytes
 bytes-back [] h = refl
 bytes-back (b ∷ bytes) h =
-    rw (digit-of (b / 16) (high b (h 0)) .1, digit-of (b % 16) (low b (h 0)) .1, whole b (h 0)) (ap (λ (r : List ℕ). b ∷ r) (bytes-back bytes (λ i. h (suc i))))
+    rw (digit-of (b / 16) (high b (h 0)) .1, digit-of (b % 16) (low b (h 0)) .1, whole b (h 0))
+    (ap (λ (r : List ℕ). b ∷ r) (bytes-back bytes (λ i. h (suc i))))
 
 pub length-hex : (bytes : List ℕ) → length (hexOf bytes) ≡ 2 * length bytes
 length-hex [] = refl

@@ -1,3 +1,4 @@
+-- Laws of digits and bytes, lowest first; `Laws` is that decoding undoes encoding.
 pub mod Digits
 pub mod Pair
 pub mod Largest

@@ -16,7 +16,8 @@ above c h = let b = by (isDecimal c) (isLetter c) refl refl h in (c - 48, b .0, 
     letter : 65 ≤ c → c ≤ 70 → (c ≡ c - 48 + 48) × (c - 48 ≡ c - 55 + 7 * ((c - 48) / 16)) × (c - 48 < 32)
     letter l u = (omega arith, omega arith, omega arith)
 
-    by : (p q : Bool) → isDecimal c ≡ p → isLetter c ≡ q → p || q ≡ true → (c ≡ c - 48 + 48) × (c - 48 ≡ cond p (c - 48) (cond q (c - 55) 0) + 7 * ((c - 48) / 16)) × (c - 48 < 32)
+    by : (p q : Bool) → isDecimal c ≡ p → isLetter c ≡ q → p || q ≡ true
+        → (c ≡ c - 48 + 48) × (c - 48 ≡ cond p (c - 48) (cond q (c - 55) 0) + 7 * ((c - 48) / 16)) × (c - 48 < 32)
     by true q d e o = decimal (from-low 48 57 c d) (to-high 48 57 c d)
     by false true d e o = letter (from-low 65 70 c e) (to-high 65 70 c e)
     by false false d e o = absurd (true≢false (sym o))
@@ -55,7 +56,8 @@ module _ (x y m n : ℕ) (e : x ≡ m + 7 * (x / 16)) (f : y ≡ n + 7 * (y / 16
       less : (x y m n k l : ℕ) → x ≡ m + 7 * k → y ≡ n + 7 * l → x + y * 0x100 - 7 * (k + l * 0x100) ≡ m + n * 0x100
       less x y m n k l e f = omega arith
 
-module _ (digits high low : ℕ) (d : digits ≡ high + low * 0x100) (h : isDigit high ≡ true) (l : isDigit low ≡ true) where
+module _ (digits high low : ℕ) (d : digits ≡ high + low * 0x100) (h : isDigit high ≡ true)
+    (l : isDigit low ≡ true) where
   pub from-0 : 0x3030 ≤ digits
   from-0 = omega (arith, d, above high h .1, above low l .1)
 

@@ -1,24 +1,28 @@
 -- A turn of each loop, and its end: what is still to be stored from here is the whole from the start. Assumes nothing.
 use mathlib.Core.Path.{_≡_, refl, ap, sym, _∙_}
 use mathlib.Core.Bool.{Bool, true, false, _&&_, _||_, and-assoc, and-true}
-use mathlib.Core.List.{List, [], _∷_, _++_, map}
+use mathlib.Core.List.{List, [], _∷_, map}
 use Prim.Native.Nat.{ℕ, zero, suc, _+_, _-_, _*_, _/_, _%_, _≤_, _<_}
 use native.Mathlib.Nat.{zero-add, add-zero}
 use native.Mathlib.Numerals.{add-one}
 use native.Mathlib.Omega.{arith}
 use lib.Dec.{eqb, ltb}
-use lib.ListN.{length, getD, take, drop, set, length-append, length-drop, length-map, drop-of-length-le, List·getD-append, replicate, length-replicate, length-take}
-use lib.Seq.{take-all, drop-append-le, drop-cons, drop-drop, drop-set-lt, getD-drop, take-at, drop-at, slice, slice-cons, slice-empty, sets, sets-eq}
-use borrow.Author.Tests.{lt-ltb, le-ltb, ltb-false, eqb-false}
+use lib.ListN.{length, getD, take, drop, set, length-append, length-drop, length-map, drop-of-length-le}
+use lib.ListN.{List·getD-append}
+use lib.Seq.{take-all, drop-cons, drop-drop, drop-set-lt, getD-drop, take-at, drop-at, slice, slice-cons, slice-empty}
+use lib.Seq.{sets, sets-eq}
+use borrow.Author.Tests.{lt-ltb, le-ltb, ltb-false}
 use Rattle.hex.specs.Hex.{isDigit, allDigits, valueOf, pairsOf, bytesOf, digitOf, hexOf, fill, decodeOf, encodeOf}
 use Rattle.hex.specs.Steps.{nibblesOf}
-use Rattle.hex.proofs.Digits.{and-left, and-right, or-left, or-right}
+use Rattle.hex.proofs.Digits.{and-left, and-right, or-right}
 use Rattle.hex.proofs.Pair.{digit-lt}
 
 -- ---- decoding: whether all are digits
 module _ (line : List ℕ) (k : ℕ) where
-  pub tested : (ok : Bool) → k < length line → (ok && isDigit (getD line k 0)) && allDigits (drop (k + 1) line) ≡ ok && allDigits (drop k line)
-  tested ok h = rw (add-one k, drop-cons line k 0 h) (and-assoc ok (isDigit (getD line k 0)) (allDigits (drop (suc k) line)))
+  pub tested : (ok : Bool) → k < length line
+      → (ok && isDigit (getD line k 0)) && allDigits (drop (k + 1) line) ≡ ok && allDigits (drop k line)
+  tested ok h =
+      rw (add-one k, drop-cons line k 0 h) (and-assoc ok (isDigit (getD line k 0)) (allDigits (drop (suc k) line)))
 
   pub all-tested : (ok : Bool) → length line ≤ k → ok ≡ ok && allDigits (drop k line)
   all-tested ok h = rw (drop-of-length-le line h) (sym (and-true ok))
@@ -36,7 +40,8 @@ two : (l : List ℕ) (i j : ℕ) → i + 1 < length l → j ≡ i + 2 → drop i
 two l i j h e =
     let h₀ : i < length l = omega arith in
     let f : suc (suc i) ≡ j = omega arith in
-    drop-cons l i 0 h₀ ∙ ap (λ (x : List ℕ). getD l i 0 ∷ x) (rw (← add-one i) (drop-cons l (i + 1) 0 h ∙ rw (add-one i, f)))
+    drop-cons l i 0 h₀
+    ∙ ap (λ (x : List ℕ). getD l i 0 ∷ x) (rw (← add-one i) (drop-cons l (i + 1) 0 h ∙ rw (add-one i, f)))
 
 -- a slice from a place on
 module _ (l : List ℕ) (a k : ℕ) (h : a + k < length l) where
@@ -71,13 +76,17 @@ module _ (line : List ℕ) (i r : ℕ) (all : allDigits line ≡ true) (h : i < 
     second-digit = each-digit line (2 * i + 1) all (omega arith)
 
     pub lower : r % 0x100 ≡ getD line (2 * i) 0
-    lower = halved (getD line (2 * i) 0) (getD line (2 * i + 1) 0) (e ∙ rw (first-at, second-at)) (digit-lt (getD line (2 * i) 0) first-digit)
+    lower =
+        halved (getD line (2 * i) 0) (getD line (2 * i + 1) 0) (e ∙ rw (first-at, second-at))
+        (digit-lt (getD line (2 * i) 0) first-digit)
       where
         halved : (a b : ℕ) → r ≡ a + b * 0x100 → a < 80 → r % 0x100 ≡ a
         halved a b f l = omega arith
 
     pub upper : r / 0x100 ≡ getD line (2 * i + 1) 0
-    upper = halved (getD line (2 * i) 0) (getD line (2 * i + 1) 0) (e ∙ rw (first-at, second-at)) (digit-lt (getD line (2 * i) 0) first-digit)
+    upper =
+        halved (getD line (2 * i) 0) (getD line (2 * i + 1) 0) (e ∙ rw (first-at, second-at))
+        (digit-lt (getD line (2 * i) 0) first-digit)
       where
         halved : (a b : ℕ) → r ≡ a + b * 0x100 → a < 80 → r / 0x100 ≡ b
         halved a b f l = omega arith
@@ -85,7 +94,8 @@ module _ (line : List ℕ) (i r : ℕ) (all : allDigits line ≡ true) (h : i < 
     pub both-digits : (isDigit (r % 0x100) ≡ true) × (isDigit (r / 0x100) ≡ true)
     both-digits = rw (lower, upper) (first-digit, second-digit)
 
-pub paired : (line bytes : List ℕ) (i b : ℕ) → i < length line / 2 → b ≡ 16 * valueOf (getD line (2 * i) 0) + valueOf (getD line (2 * i + 1) 0)
+pub paired : (line bytes : List ℕ) (i b : ℕ) → i < length line / 2
+    → b ≡ 16 * valueOf (getD line (2 * i) 0) + valueOf (getD line (2 * i + 1) 0)
     → sets (set bytes i b) (i + 1) (bytesOf (drop (2 * (i + 1)) line)) ≡ sets bytes i (bytesOf (drop (2 * i) line))
 paired line bytes i b h e = rw (two line (2 * i) (2 * (i + 1)) (omega arith) (omega arith), add-one i, e)
 
@@ -98,8 +108,10 @@ pub length-bytes : (line : List ℕ) → length (bytesOf line) ≡ length line /
 length-bytes line = length-pairs (map valueOf line) ∙ rw (length-map line valueOf)
 
 -- no byte is left where fewer than two characters are
-pub all-paired : (line bytes : List ℕ) (i : ℕ) → length line / 2 ≤ i → bytes ≡ sets bytes i (bytesOf (drop (2 * i) line))
-all-paired line bytes i h = rw (empty (bytesOf (drop (2 * i) line)) (omega (arith, length-bytes (drop (2 * i) line), length-drop (2 * i) line)))
+pub all-paired : (line bytes : List ℕ) (i : ℕ) → length line / 2 ≤ i
+    → bytes ≡ sets bytes i (bytesOf (drop (2 * i) line))
+all-paired line bytes i h =
+    rw (empty (bytesOf (drop (2 * i) line)) (omega (arith, length-bytes (drop (2 * i) line), length-drop (2 * i) line)))
   where
     empty : (xs : List ℕ) → length xs ≡ 0 → xs ≡ []
     empty [] e = refl
@@ -108,22 +120,17 @@ all-paired line bytes i h = rw (empty (bytesOf (drop (2 * i) line)) (omega (arit
         some : (n : ℕ) → suc n ≡ 0 → ⊥
         some n e = omega arith
 
--- ---- decoding: zeros first
-pub zeroed : (bytes : List ℕ) (n i : ℕ) → i < n → sets (set bytes i 0) (i + 1) (replicate (n - (i + 1)) 0) ≡ sets bytes i (replicate (n - i) 0)
-zeroed bytes n i h = let e : n - i ≡ suc (n - (i + 1)) = omega arith in rw (e, add-one i)
-
-pub all-zeroed : (bytes : List ℕ) (n i : ℕ) → n ≤ i → bytes ≡ sets bytes i (replicate (n - i) 0)
-all-zeroed bytes n i h = let e : n - i ≡ 0 = omega arith in rw e
-
 -- ---- encoding: the values of the digits
 pub halved : (bytes reply : List ℕ) (i : ℕ) → i < length bytes
-    → sets (set (set reply (2 * i) (getD bytes i 0 / 16)) (2 * i + 1) (getD bytes i 0 % 16)) (2 * (i + 1)) (nibblesOf (drop (i + 1) bytes))
+    → sets (set (set reply (2 * i) (getD bytes i 0 / 16)) (2 * i + 1) (getD bytes i 0 % 16)) (2 * (i + 1))
+    (nibblesOf (drop (i + 1) bytes))
     ≡ sets reply (2 * i) (nibblesOf (drop i bytes))
 halved bytes reply i h =
     let e : 2 * (i + 1) ≡ suc (suc (2 * i)) = omega arith in
     rw (e, add-one (2 * i), add-one i, drop-cons bytes i 0 h)
 
-pub all-halved : (bytes reply : List ℕ) (i : ℕ) → length bytes ≤ i → reply ≡ sets reply (2 * i) (nibblesOf (drop i bytes))
+pub all-halved : (bytes reply : List ℕ) (i : ℕ) → length bytes ≤ i
+    → reply ≡ sets reply (2 * i) (nibblesOf (drop i bytes))
 all-halved bytes reply i h = rw (drop-of-length-le bytes h)
 
 -- ---- encoding: from values to digits, in place, where l was there at first
@@ -138,7 +145,9 @@ module _ (l : List ℕ) (n : ℕ) (fits : n ≤ length l) where
       let h : k < k + 1 = omega arith in
       drop-set-lt (k + 1) reply k a h ∙ sym (drop-drop 1 k reply) ∙ ap (drop 1) e ∙ drop-drop 1 k l
 
-  pub spelt : (reply : List ℕ) (k : ℕ) → k < n → sets (set reply k (digitOf (getD l k 0))) (k + 1) (map digitOf (slice (k + 1) n l)) ≡ sets reply k (map digitOf (slice k n l))
+  pub spelt : (reply : List ℕ) (k : ℕ) → k < n
+      → sets (set reply k (digitOf (getD l k 0))) (k + 1) (map digitOf (slice (k + 1) n l))
+      ≡ sets reply k (map digitOf (slice k n l))
   spelt reply k h = rw (add-one k, slice-cons k n l 0 h fits)
 
   pub all-spelt : (reply : List ℕ) (k : ℕ) → k ≤ n → n ≤ k → reply ≡ sets reply k (map digitOf (slice k n l))
@@ -165,7 +174,8 @@ sets-fill xs lent h =
     let h₀ : 0 + length xs ≤ length lent = omega arith in sets-eq xs lent 0 h₀ ∙ rw (zero-add (length xs))
 
 -- ---- the ways out
-pub none-encoded : (bytes lent : List ℕ) → length lent / 2 < length bytes → record { ok = false; left = lent } ≡ encodeOf bytes lent
+pub none-encoded : (bytes lent : List ℕ) → length lent / 2 < length bytes
+    → record { ok = false; left = lent } ≡ encodeOf bytes lent
 unfolding encodeOf
 none-encoded bytes lent h = rw (lt-ltb (length lent / 2) (length bytes) h)
 
@@ -177,7 +187,11 @@ module _ (bytes lent : List ℕ) (h : length bytes ≤ length lent / 2) where
   pub enough : 2 * length bytes ≤ length values
   enough =
       let m : 2 * length bytes ≤ length lent = omega arith in
-      rw (length-append (nibblesOf bytes) (drop (length (nibblesOf bytes)) lent), length-drop (length (nibblesOf bytes)) lent, length-nibbles bytes) (omega arith)
+      rw (
+        length-append (nibblesOf bytes) (drop (length (nibblesOf bytes)) lent),
+        length-drop (length (nibblesOf bytes)) lent,
+        length-nibbles bytes,
+      ) (omega arith)
 
   pub small : ((i : ℕ) → getD bytes i 0 < 256) → (k : ℕ) → k < 2 * length bytes → getD values k 0 < 16
   small b k i =
@@ -187,10 +201,15 @@ module _ (bytes lent : List ℕ) (h : length bytes ≤ length lent / 2) where
   shape : fill (map digitOf (take (2 * length bytes) values)) values ≡ fill (hexOf bytes) lent
   shape =
       let rest : List ℕ = drop (length (nibblesOf bytes)) lent in
-      rw
-      (take-at (nibblesOf bytes) rest (2 * length bytes) (length-nibbles bytes), ← spelling bytes, length-map (nibblesOf bytes) digitOf, drop-at (nibblesOf bytes) rest (length (nibblesOf bytes)) refl)
+      rw (
+        take-at (nibblesOf bytes) rest (2 * length bytes) (length-nibbles bytes),
+        ← spelling bytes,
+        length-map (nibblesOf bytes) digitOf,
+        drop-at (nibblesOf bytes) rest (length (nibblesOf bytes)) refl,
+      )
 
-  pub encoded : (reply : List ℕ) → reply ≡ fill (map digitOf (take (2 * length bytes) values)) values → record { ok = true; left = reply } ≡ encodeOf bytes lent
+  pub encoded : (reply : List ℕ) → reply ≡ fill (map digitOf (take (2 * length bytes) values)) values
+      → record { ok = true; left = reply } ≡ encodeOf bytes lent
   unfolding encodeOf
   encoded reply e = rw (le-ltb (length lent / 2) (length bytes) h, e, shape)
 

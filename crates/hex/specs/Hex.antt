@@ -59,7 +59,8 @@ decodeOf line lent =
     (record { ok = false; left = lent })
     (record { ok = allDigits line; left = fill (bytesOf line) lent })
 
--- Yes, with the characters of the bytes in the first lent places, two a byte; or no, and the places as they came, where these are too few.
+-- Yes, with the characters of the bytes in the first lent places, two a byte;
+-- or no, and the places as they came, where these are too few.
 unfoldable pub encodeOf : List ℕ → List ℕ → Filled
 encodeOf bytes lent =
     cond (ltb (length lent / 2) (length bytes))

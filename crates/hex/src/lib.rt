@@ -9,7 +9,8 @@ ghost use lib.ListN.{length, getD, take};
 ghost use Rattle.hex.specs.Hex.{Filled, isDigit, allDigits, valueOf, bytesOf, digitOf, fill, decodeOf, encodeOf};
 ghost use Rattle.hex.specs.Steps.{nibblesOf};
 
-fn value(c: u8) -> u8
+// What a digit stands for; 0 for any other character.
+pub fn value(c: u8) -> u8
     ensures { λ r. ⌜ r ≡ valueOf c ⌝ }
 {
     if (48 <= c) & (c <= 57) {
@@ -34,7 +35,8 @@ fn larger(x: u8, y: u8) -> u8
     if x < y { y } else { x }
 }
 
-// Less 48, round 256, a digit is at most 22, and less 65 at most 248; no other character is both. So the largest of each tells.
+// Less 48, round 256, a digit is at most 22, and less 65 at most 248; no other character is both. So the largest of
+// each tells.
 fn all_digits(line: &[u8]) -> bool
     ensures { λ r. ⌜ r ≡ allDigits (now (line .entry)) ⌝ }
 {
@@ -48,15 +50,16 @@ fn all_digits(line: &[u8]) -> bool
     (less_48 <= 22) & (less_65 <= 248)
 }
 
-// Two characters in one number, the first in its lower half. The compiler reads both in one step where they are at 0 and 1 of
-// a part, and where the number is made before any other sum: hence a function of its own.
+// Two characters in one number, the first in its lower half. The compiler reads both in one step where they are at 0
+// and 1 of a part, and where the number is made before any other sum: hence a function of its own.
 fn side_by_side(first: u8, second: u8) -> u16
     ensures { λ r. ⌜ r ≡ first + second * 0x100 ⌝ }
 {
     (first as u16) + (second as u16) * 0x100
 }
 
-// The byte of two digits side by side. Less 48, a letter has 16 in it and a decimal has not; a letter is then 7 above its value.
+// The byte of two digits side by side. Less 48, a letter has 16 in it and a decimal has not; a letter is then 7 above
+// its value.
 fn byte(digits: u16) -> u8
     requires { ⌜ isDigit (digits % 0x100) ≡ true ⌝ }
     requires { ⌜ isDigit (digits / 0x100) ≡ true ⌝ }
@@ -91,7 +94,8 @@ fn any_pairs(line: &[u8], bytes: &mut [u8])
     }
 }
 
-// What lies between the digits 9 and A, from A on. The test is signed: the machine has it for many bytes in one step, the other in two.
+// What lies between the digits 9 and A, from A on. The test is signed: the machine has it for many bytes in one step,
+// the other in two.
 fn gap(n: u8) -> u8
     requires { ⌜ n < 16 ⌝ }
     ensures { λ r. ⌜ r ≡ cond (ltb n 10) 0 7 ⌝ }
@@ -146,7 +150,8 @@ fn spell(reply: &mut [u8], n: usize)
 }
 
 pub fn encode(bytes: &[u8], reply: &mut [u8]) -> bool
-    ensures { λ r. ⌜ record { ok = r; left = now (reply .exit) } ≡ encodeOf (now (bytes .entry)) (now (reply .entry)) ⌝ }
+    ensures { λ r. ⌜ record { ok = r; left = now (reply .exit) }
+        ≡ encodeOf (now (bytes .entry)) (now (reply .entry)) ⌝ }
 {
     let n = bytes.len();
     if reply.len() / 2 < n {

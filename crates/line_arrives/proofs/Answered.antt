@@ -1,5 +1,5 @@
--- What the answer 0 to a line that asks a shape says: its twelve numbers are finite f64s, and the places hold first the bytes of
--- what the shape left. Assumes nothing.
+-- What the answer 0 to a line that asks a shape says: its twelve numbers are finite f64s, and the places hold first the
+-- bytes of what the shape left. Assumes nothing.
 use mathlib.Core.Path.{_≡_, refl, sym, ap, _∙_, subst}
 use mathlib.Core.Bool.{Bool, true, false, cond}
 use mathlib.Core.List.{List, [], _∷_, _++_}
@@ -62,7 +62,9 @@ pub answer-fits : (at : Frame) (i : ℕ) → AnswerFits (rootAnswerOf at i)
 unfolding rootAnswerOf
 answer-fits at i = by (eqb (at i) 0)
   where
-    by : (b : Bool) → AnswerFits (cond b (CubeRoot (numberAt at (i + 1))) (Resolved (at i) (record { x0 = numberAt at (i + 1); x1 = numberAt at (i + 9); x2 = numberAt at (i + 17) })))
+    by : (b : Bool)
+        → AnswerFits (cond b (CubeRoot (numberAt at (i + 1)))
+        (Resolved (at i) (record { x0 = numberAt at (i + 1); x1 = numberAt at (i + 9); x2 = numberAt at (i + 17) })))
     by true = ofBits-fits binary64 (wordAt at (i + 1))
     by false = tt
 
@@ -83,7 +85,8 @@ module _ (line lent : List ℕ) (zero : answerOf line lent .number ≡ 0) (k : A
   -- every question that a shape is asked was answered yes
   asked-yes : AllYes (questionsOf (OfShape (k .shape)) at ++ (ask 8 (placesFit (rowFor line) (length lent)) ∷ []))
   asked-yes =
-      subst (λ (asks : Asks). AllYes (questionsOf asks at ++ (ask 8 (placesFit (rowFor line) (length lent)) ∷ []))) (k .asked)
+      subst (λ (asks : Asks). AllYes (questionsOf asks at ++ (ask 8 (placesFit (rowFor line) (length lent)) ∷ [])))
+      (k .asked)
       (frame-yes line lent zero)
 
   pub numbers-are : Numbers (moveIn line)

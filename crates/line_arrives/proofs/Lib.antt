@@ -1,4 +1,5 @@
--- Demand 3 over the characters of a line and of its reply: the theorem, and what carries it from the record to the characters.
+-- Demand 3 over the characters of a line and of its reply:
+-- the theorem, and what carries it from the record to the characters.
 pub mod Characters
 pub mod Rows
 pub mod Agreeing

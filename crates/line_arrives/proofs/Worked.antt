@@ -1,5 +1,5 @@
--- The premises of demand 3 at the line can be met: the answer to document 01's line of kind 01 is 0, its reply says yes and is
--- within the sizes, and so it arrives. Assumes nothing.
+-- The premises of demand 3 at the line can be met: the answer to document 01's line of kind 01 is 0, its reply says yes
+-- and is within the sizes, and so it arrives. Assumes nothing.
 use mathlib.Core.Path.{_≡_, refl}
 use Prim.Native.Nat.{ℕ, _*_}
 use lib.Dec.{lit≤}
@@ -42,9 +42,12 @@ answer = answerOf worked-line (replicate 728 0)
 -- all of it computes
 met : (answer .number ≡ 0) × AsksShape worked-line × SaysYes (answer .places) × Sizes worked-line (answer .places)
 unfolding triedOf tryOf acc0Acc1VelUddu acc0Acc1VelUdduApplies acc0Acc1VelUdduRadicand acc0Acc1VelUdduH1
-    acc0Acc1VelUdduT1 acc0Acc1VelUdduTimes newOf attemptOf boundaryOf checkOf sumsOf sumStep run refusedOf testsOf jerksOf
-    phaseOf nodeOf replacedOf zeroInsideOf integrateOf bandOf arrivedOf keptOf absOf sqrtOf ofBits toBits neg add sub mul div
-    lt le eq wordAt moveOf headOf rowsOf replyBytesOf shapeLineOf rowOf countsFit countsSuit questionsOf replyOf repliedOf
+    acc0Acc1VelUdduT1 acc0Acc1VelUdduTimes newOf attemptOf boundaryOf checkOf sumsOf sumStep run refusedOf testsOf
+    jerksOf
+    phaseOf nodeOf replacedOf zeroInsideOf integrateOf bandOf arrivedOf keptOf absOf sqrtOf ofBits toBits neg add sub
+    mul div
+    lt le eq wordAt moveOf headOf rowsOf replyBytesOf shapeLineOf rowOf countsFit countsSuit questionsOf replyOf
+    repliedOf
     answerOf unit mag sign val lasts
 met = (
   refl,
@@ -56,8 +59,11 @@ met = (
     acceleration = record { over = lit≤ tt; under = lit≤ tt };
     total = lit≤ tt;
     jerks =
-        by-seven (λ (i : ℕ). Size (val (jerkIn (answer .places) i)) (64 * unit)) (record { over = lit≤ tt; under = lit≤ tt }) (record { over = lit≤ tt; under = lit≤ tt }) (record { over = lit≤ tt; under = lit≤ tt }) (record { over = lit≤ tt; under = lit≤ tt })
-        (record { over = lit≤ tt; under = lit≤ tt }) (record { over = lit≤ tt; under = lit≤ tt }) (record { over = lit≤ tt; under = lit≤ tt });
+        by-seven (λ (i : ℕ). Size (val (jerkIn (answer .places) i)) (64 * unit))
+        (record { over = lit≤ tt; under = lit≤ tt }) (record { over = lit≤ tt; under = lit≤ tt })
+        (record { over = lit≤ tt; under = lit≤ tt }) (record { over = lit≤ tt; under = lit≤ tt })
+        (record { over = lit≤ tt; under = lit≤ tt }) (record { over = lit≤ tt; under = lit≤ tt })
+        (record { over = lit≤ tt; under = lit≤ tt });
   },
 )
 

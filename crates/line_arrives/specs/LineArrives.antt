@@ -1,5 +1,7 @@
--- Demand 3 over the characters of a line and of its reply: which numbers they hold, the exact motion by these, and what it is to arrive. Definitions only.
--- The motion and the distances are those of crates/rounding/specs/Motion.antt and crates/profile_arrives/specs/Arrives.antt, in whole numbers.
+-- Definitions only. Demand 3 over the characters of a line and of its reply:
+-- which numbers they hold, the exact motion by these, and what it is to arrive.
+-- The motion and the distances are those of crates/rounding/specs/Motion.antt and
+-- crates/profile_arrives/specs/Arrives.antt, in whole numbers.
 use mathlib.Core.Path.{_≡_}
 use mathlib.Core.Bool.{false}
 use mathlib.Core.List.{List}
@@ -45,9 +47,11 @@ timeIn reply i = numberIn reply (4 + 8 * i)
 abbrev pub jerkIn : List ℕ → ℕ → Float
 jerkIn reply i = numberIn reply (116 + 8 * i)
 
--- The exact motion from the line's p0, v0 and a0 by the reply's times and jerks, and by nothing else: its state after phase i.
+-- The exact motion from the line's p0, v0 and a0 by the reply's times and jerks, and by nothing else:
+-- its state after phase i.
 abbrev pub stateAfter : List ℕ → List ℕ → ℕ → Moving
-stateAfter line reply i = let m = moveIn line in motion (timeIn reply) (jerkIn reply) (state (m .p0) (m .v0) (m .a0)) (suc i)
+stateAfter line reply i =
+    let m = moveIn line in motion (timeIn reply) (jerkIn reply) (state (m .p0) (m .v0) (m .a0)) (suc i)
 
 -- how long it lasts: the exact sum of the seven times
 abbrev pub duration : List ℕ → D
@@ -64,10 +68,12 @@ pub record Sizes (line reply : List ℕ) : Type 0 where
 -- ---- what it is to arrive
 -- the velocity and the acceleration X between the limits of the move, within f
 abbrev pub VelocityKept : Fraction → Move → D → Type 0
-VelocityKept f m X = Between f perV (lower (m .«v_max») (m .«v_max») (m .«v_min»)) X (upper (m .«v_max») (m .«v_max») (m .«v_min»))
+VelocityKept f m X =
+    Between f perV (lower (m .«v_max») (m .«v_max») (m .«v_min»)) X (upper (m .«v_max») (m .«v_max») (m .«v_min»))
 
 abbrev pub AccelerationKept : Fraction → Move → D → Type 0
-AccelerationKept f m X = Between f perA (lower (m .«v_max») (m .«a_max») (m .«a_min»)) X (upper (m .«v_max») (m .«a_max») (m .«a_min»))
+AccelerationKept f m X =
+    Between f perA (lower (m .«v_max») (m .«a_max») (m .«a_min»)) X (upper (m .«v_max») (m .«a_max») (m .«a_min»))
 
 -- `val` takes a NaN and an infinity for 0; the first two fields say that there is none.
 pub record LineArrives (w : Distances) (s : Fraction) (line reply : List ℕ) : Type 0 where
@@ -77,12 +83,14 @@ pub record LineArrives (w : Distances) (s : Fraction) (line reply : List ℕ) : 
   pub velocity : At (w .velocity) perV (stateAfter line reply 6 .v) (moveIn line .vf)
   pub acceleration : At (w .acceleration) perA (stateAfter line reply 6 .a) (moveIn line .af)
   pub lasting : Close s (duration reply) (moveIn line .tf)
-  pub velocity-limits : (i : ℕ) → 2 ≤ i → i ≤ 5 → VelocityKept (w .velocity-limit) (moveIn line) (stateAfter line reply i .v)
+  pub velocity-limits : (i : ℕ) → 2 ≤ i → i ≤ 5
+      → VelocityKept (w .velocity-limit) (moveIn line) (stateAfter line reply i .v)
   pub acceleration-0 : AccelerationKept (w .acceleration-limit) (moveIn line) (stateAfter line reply 0 .a)
   pub acceleration-2 : AccelerationKept (w .acceleration-limit) (moveIn line) (stateAfter line reply 2 .a)
   pub acceleration-4 : AccelerationKept (w .acceleration-limit) (moveIn line) (stateAfter line reply 4 .a)
 
--- demand 3: 2e-8 of the position and the velocity, 2e-10 of the acceleration, 1e-8 and 1e-10 of the limits, 1e-10 seconds
+-- demand 3: 2e-8 of the position and the velocity, 2e-10 of the acceleration,
+-- 1e-8 and 1e-10 of the limits, 1e-10 seconds
 abbrev pub Demand3 : List ℕ → List ℕ → Type 0
 Demand3 line reply = LineArrives demanded in-time line reply
 

@@ -1,4 +1,5 @@
--- One line of document 01: kind 01, from rest in 0 to rest in 8 in 7 seconds, with the limits ±2 and ±1 and the jerk 1. Definitions only.
+-- Definitions only. One line of document 01: kind 01, from rest in 0 to rest in 8 in 7 seconds,
+-- with the limits ±2 and ±1 and the jerk 1.
 use mathlib.Core.List.{List, [], _∷_}
 use Prim.Native.Nat.{ℕ}
 use lib.Ieee.{Float, binary64, ofBits, neg}

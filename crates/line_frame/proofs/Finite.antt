@@ -1,4 +1,5 @@
--- What reading the numbers of a frame says: where it says yes they are finite and those of the frame, where it says no they are not finite.
+-- What reading the numbers of a frame says: where it says yes they are finite and those of the frame,
+-- where it says no they are not finite.
 -- Assumes nothing.
 use mathlib.Core.Path.{_≡_, refl, sym, ap, _∙_}
 use mathlib.Core.Bool.{Bool, true, false, cond, true≢false}
@@ -11,7 +12,8 @@ use Rattle.line_frame.specs.Numbers.{checkNumbersOf, zeroCheck, checkFin
 use Rattle.line_frame.specs.Numbers.{moveOf, zeroMove, moveFinite, finiteMoveOf}
 
 -- over any record of a verdict and numbers
-module _ {R X : Type 0} (ok : R → Bool) (x : R → X) (b : Bool) (m y n : R) (oy : ok y ≡ true) (on : ok n ≡ false) (e : m ≡ cond b y n) where
+module _ {R X : Type 0} (ok : R → Bool) (x : R → X) (b : Bool) (m y n : R) (oy : ok y ≡ true) (on : ok n ≡ false)
+    (e : m ≡ cond b y n) where
   read : ok m ≡ true → (b ≡ true) × (x m ≡ x y)
   read h = by b e
     where

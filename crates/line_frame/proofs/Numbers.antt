@@ -1,4 +1,5 @@
--- Numbers of a frame in a row: a turn of the loop that tests them, and its end; each of them is finite where all are. Assumes nothing.
+-- Assumes nothing. Numbers of a frame in a row: a turn of the loop that tests them, and its end;
+-- each of them is finite where all are.
 use mathlib.Core.Path.{_≡_, refl, sym, _∙_}
 use mathlib.Core.Bool.{Bool, true, false, not, _&&_, and-assoc, and-true, true≢false}
 use Prim.Native.Nat.{ℕ, zero, suc, _+_, _*_, _-_, _%_, _≤_, _<_}
@@ -25,7 +26,8 @@ module _ (at : Frame) (from n i : ℕ) where
   turn ok h =
       let e : n - i ≡ suc (n - (i + 1)) = omega arith in
       let f : from + 8 * (i + 1) ≡ (from + 8 * i) + 8 = omega arith in
-      rw (e, f) (and-assoc ok (finite (numberAt at (from + 8 * i))) (allFinite (numbersAt at (from + 8 * i + 8) (n - (i + 1)))))
+      rw (e, f)
+      (and-assoc ok (finite (numberAt at (from + 8 * i))) (allFinite (numbersAt at (from + 8 * i + 8) (n - (i + 1)))))
 
   pub done : (ok : Bool) → n ≤ i → ok ≡ ok && rest i
   done ok h =
@@ -50,5 +52,6 @@ each-finite at from (suc n) h (suc k) l =
 -- and its bits are no NaN's
 pub no-nan : (b : ℕ) → b < 0x1_0000_0000_0000_0000 → finite (ofBits binary64 b) ≡ true → T (not (nanBits binary64 b))
 no-nan b l h =
-    let t : b % 0x8000_0000_0000_0000 < 0x7FF0_0000_0000_0000 = ltb-true (b % 0x8000_0000_0000_0000) 0x7FF0_0000_0000_0000 (finite-is b l ∙ h) in
+    let t : b % 0x8000_0000_0000_0000 < 0x7FF0_0000_0000_0000 =
+    ltb-true (b % 0x8000_0000_0000_0000) 0x7FF0_0000_0000_0000 (finite-is b l ∙ h) in
     some-bits b (omega arith)

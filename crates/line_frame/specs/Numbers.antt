@@ -48,7 +48,8 @@ moveOf at =
       «j_max» = numberAt at 89;
     }
 
--- Question 6 with the numbers that it is asked of: whether they are finite, and where they are not, zeros. Kind 00's times may be any.
+-- Question 6 with the numbers that it is asked of: whether they are finite, and where they are not, zeros.
+-- Kind 00's times may be any.
 abbrev pub zeroCheck : CheckNumbers
 zeroCheck =
     record {

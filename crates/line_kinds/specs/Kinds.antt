@@ -1,4 +1,5 @@
--- The kinds of line, one row each: the bytes of the frame, the places of the reply, and what the line asks. Definitions only.
+-- Definitions only. The kinds of line, one row each: the bytes of the frame, the places of the reply,
+-- and what the line asks.
 use mathlib.Core.Bool.{Bool, true, false, cond}
 use mathlib.Core.List.{List, [], _∷_}
 use Prim.Native.Nat.{ℕ, _*_}

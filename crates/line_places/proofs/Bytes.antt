@@ -12,7 +12,8 @@ use Rattle.hex.proofs.Laws.{all-digits}
 use Rattle.number_bytes.specs.Bytes.{wordBytes, numberBytes}
 use Rattle.labels.specs.Labels.{labelNumber, directionNumber, signsNumber}
 use Rattle.labels.specs.declared.ReachedLimits.{ReachedLimits}
-use Rattle.labels.specs.declared.ReachedLimits.the-variants.{Acc0Acc1Vel, Vel, Acc0, Acc1, Acc0Acc1, Acc0Vel, Acc1Vel, None}
+use Rattle.labels.specs.declared.ReachedLimits.the-variants.{Acc0Acc1Vel, Vel, Acc0, Acc1, Acc0Acc1, Acc0Vel, Acc1Vel}
+use Rattle.labels.specs.declared.ReachedLimits.the-variants.{None}
 use Rattle.labels.specs.declared.Direction.{Direction}
 use Rattle.labels.specs.declared.Direction.the-variants.{UP, DOWN}
 use Rattle.labels.specs.declared.ControlSigns.{ControlSigns}
@@ -49,11 +50,13 @@ rest-lt : (w : ℕ) → w % 256 < 256
 rest-lt w = omega arith
 
 word-are-bytes : (w : ℕ) → Bytes (wordBytes w)
-word-are-bytes w = (rest-lt _, (rest-lt _, (rest-lt _, (rest-lt _, (rest-lt _, (rest-lt _, (rest-lt _, (rest-lt _, tt))))))))
+word-are-bytes w =
+    (rest-lt _, (rest-lt _, (rest-lt _, (rest-lt _, (rest-lt _, (rest-lt _, (rest-lt _, (rest-lt _, tt))))))))
 
 numbers-are-bytes : (xs : List Float) → Bytes (numbersBytes xs)
 numbers-are-bytes [] = tt
-numbers-are-bytes (x ∷ xs) = bytes-append (numberBytes x) (numbersBytes xs) (word-are-bytes (toBits binary64 x)) (numbers-are-bytes xs)
+numbers-are-bytes (x ∷ xs) =
+    bytes-append (numberBytes x) (numbersBytes xs) (word-are-bytes (toBits binary64 x)) (numbers-are-bytes xs)
 
 -- ---- the single bytes
 verdict-lt : (b : Bool) → cond b 1 0 < 256
@@ -98,8 +101,16 @@ rows t s j a v p =
 pub reply-bytes : (c : Checked) → Bytes (replyBytesOf c)
 unfolding replyBytesOf headOf
 reply-bytes c =
-    let q = c .profile in
-    (verdict-lt (c .ok), (label-lt (q .limits), (direction-lt (q .direction), (signs-lt (q .«control_signs»), rows (q .t) (q .«t_sum») (q .j) (q .a) (q .v) (q .p)))))
+    let q = c .profile in (
+      verdict-lt (c .ok),
+      (
+        label-lt (q .limits),
+        (
+          direction-lt (q .direction),
+          (signs-lt (q .«control_signs»), rows (q .t) (q .«t_sum») (q .j) (q .a) (q .v) (q .p)),
+        ),
+      ),
+    )
 
 -- ---- kinds 06 and 07: two quartics
 quartic : (a b c d : Float) → Bytes (quarticBytesOf a b c d)

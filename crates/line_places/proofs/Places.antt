@@ -1,5 +1,5 @@
--- Demand 1 in plain form: after a number every lent place is as it came; after 0 the reply stands in the first places, exactly as
--- many as the table of kinds says, all digits, and every later place is as it came. Assumes nothing.
+-- Demand 1 in plain form: after a number every lent place is as it came; after 0 the reply stands in the first places,
+-- exactly as many as the table of kinds says, all digits, and every later place is as it came. Assumes nothing.
 use mathlib.Core.Path.{_≡_, refl, sym, ap, _∙_}
 use mathlib.Core.Bool.{Bool, true, false, cond}
 use mathlib.Core.List.{List, [], _∷_, _++_}
@@ -87,7 +87,8 @@ module _ (line lent : List ℕ) where
     places-enough : rowFor line .places ≤ length lent
     places-enough =
         leb-true (rowFor line .places) (length lent)
-        (all-rest (questionsOf (rowFor line .asks) at) (ask 8 (placesFit (rowFor line) (length lent)) ∷ []) frame-yes .0)
+        (all-rest (questionsOf (rowFor line .asks) at) (ask 8 (placesFit (rowFor line) (length lent)) ∷ [])
+        frame-yes .0)
 
     reply-exact : length (replyTo line) ≡ rowFor line .places
     reply-exact =
@@ -109,7 +110,8 @@ after-a-reply line lent said =
     }
 
 -- ---- after either
-as-many : (reply lent : List ℕ) (n : ℕ) → length reply ≡ n → n ≤ length lent → length (reply ++ drop n lent) ≡ length lent
+as-many : (reply lent : List ℕ) (n : ℕ) → length reply ≡ n → n ≤ length lent
+    → length (reply ++ drop n lent) ≡ length lent
 as-many reply lent n e h = rw (length-append reply (drop n lent), length-drop n lent) (omega arith)
 
 pub same-places : (line lent : List ℕ) → length (answerOf line lent .places) ≡ length lent
@@ -118,5 +120,6 @@ same-places line lent = by (eqb (answerOf line lent .number) 0) refl
     by : (b : Bool) → eqb (answerOf line lent .number) 0 ≡ b → length (answerOf line lent .places) ≡ length lent
     by true e =
         let f = after-a-reply line lent (eqb-true (answerOf line lent .number) 0 e) in
-        ap (λ (l : List ℕ). length l) (f .first) ∙ as-many (replyTo line) lent (rowFor line .places) (f .exactly) (f .enough)
+        ap (λ (l : List ℕ). length l) (f .first)
+        ∙ as-many (replyTo line) lent (rowFor line .places) (f .exactly) (f .enough)
     by false e = ap (λ (l : List ℕ). length l) (after-a-number line lent (eqb-false (answerOf line lent .number) 0 e))

@@ -1,5 +1,5 @@
--- The reply has the places that the table of kinds says, two characters a byte, after a no as after a yes; and every entry of it is
--- a byte. Assumes nothing.
+-- The reply has the places that the table of kinds says, two characters a byte, after a no as after a yes; and every
+-- entry of it is a byte. Assumes nothing.
 use mathlib.Core.Path.{_≡_, refl, ap, _∙_}
 use mathlib.Core.List.{List, _++_}
 use Prim.Native.Nat.{ℕ, _+_, _*_}
@@ -62,7 +62,8 @@ six t s j a v p = simp length-append
 rows-length : (q : Profile) → Lengths q → length (rowsOf (q .t) (q .«t_sum») (q .j) (q .a) (q .v) (q .p)) ≡ 360
 unfolding rowsOf
 rows-length q h =
-    six (numbersBytes (q .t)) (numbersBytes (q .«t_sum»)) (numbersBytes (q .j)) (numbersBytes (q .a)) (numbersBytes (q .v))
+    six (numbersBytes (q .t)) (numbersBytes (q .«t_sum»)) (numbersBytes (q .j)) (numbersBytes (q .a))
+    (numbersBytes (q .v))
     (numbersBytes (q .p))
     ∙ simp (length-numbers, h .seven-t, h .seven-t-sum, h .seven-j, h .eight-a, h .eight-v, h .eight-p)
 
@@ -80,7 +81,8 @@ pub reply-of-length : (asks : Asks) (at : Frame) → 2 * length (replyOf asks at
 unfolding replyOf
 reply-of-length NoKind at = refl
 reply-of-length OfCheck at = ap (λ (n : ℕ). 2 * n) (reply-length (checkLineOf at) (check-lengths at))
-reply-of-length (OfShape shape) at = ap (λ (n : ℕ). 2 * n) (reply-length (shapeLineOf shape at) (shape-lengths shape at))
+reply-of-length (OfShape shape) at =
+    ap (λ (n : ℕ). 2 * n) (reply-length (shapeLineOf shape at) (shape-lengths shape at))
 reply-of-length (OfQuartics shape) at = ap (λ (n : ℕ). 2 * n) (quartics-length shape at)
 
 pub reply-of-bytes : (asks : Asks) (at : Frame) → Bytes (replyOf asks at)

@@ -1,5 +1,5 @@
--- The first question with a no, over any list of questions: where the first ones were answered yes, the rest decides; and where
--- none was answered no, each was answered yes. Assumes nothing.
+-- The first question with a no, over any list of questions: where the first ones were answered yes, the rest decides;
+-- and where none was answered no, each was answered yes. Assumes nothing.
 use mathlib.Core.Path.{_≡_, refl}
 use mathlib.Core.Bool.{Bool, true, false, cond}
 use mathlib.Core.List.{List, [], _∷_, _++_}

@@ -1,5 +1,6 @@
 -- The questions to a line, in order, and which of them each kind is asked. Definitions only.
--- A question that a kind has nothing to ask about is not asked. One that a later kind brings stands in that kind's list alone.
+-- A question that a kind has nothing to ask about is not asked.
+-- One that a later kind brings stands in that kind's list alone.
 use mathlib.Core.Bool.{Bool, true, false, cond, not, _&&_}
 use mathlib.Core.List.{List, [], _∷_, _++_}
 use Prim.Native.Nat.{ℕ, _%_}

@@ -1,4 +1,5 @@
-// The questions to a line, each a function of its own. Which of them a kind is asked, and in which order, is `questionsOf`.
+// The questions to a line, each a function of its own. Which of them a kind is asked, and in which order,
+// is `questionsOf`.
 use line_kinds::FRAME;
 use line_kinds::LINE;
 use line_kinds::takes_roots;

@@ -1,2 +1,3 @@
+-- Laws of the bytes of a reply, and of its characters in the lent places.
 pub mod Rows
 pub mod Written

@@ -1,5 +1,5 @@
 -- Runs of stores: eight, one after another, over a whole list; and the rows of numbers in a reply. Assumes nothing.
-use mathlib.Core.Path.{_≡_, refl, ap, sym, _∙_}
+use mathlib.Core.Path.{_≡_, refl, _∙_}
 use mathlib.Core.List.{List, [], _∷_, _++_, append-assoc, append-nil}
 use Prim.Native.Nat.{ℕ, suc, _+_, _*_, _≤_, _<_}
 use native.Mathlib.Nat.{add-zero, add-suc, suc-add}
@@ -9,14 +9,15 @@ use lib.ListN.{length, getD, take, drop, set, length-append, drop-of-length-le}
 use lib.Seq.{drop-cons, sets, sets-eq, take-append-seam}
 use lib.Ieee.{Float}
 use Rattle.number_bytes.specs.Bytes.{numberBytes}
-use Rattle.profile.specs.declared.in_place.Answer.{Answer}
+use Rattle.profile.specs.declared.in_place.Verdict.{Verdict}
 use Rattle.roots.specs.declared.Need.{Need}
 use Rattle.roots.specs.declared.Three.{Three}
 use Rattle.roots.specs.Quartic.{needOf, needNumber, resolventOf}
 use Rattle.line_reply.specs.Reply.{numbersBytes, headOf, rowsOf, quarticBytesOf}
 
 pub eight : (l : List ℕ) (i b0 b1 b2 b3 b4 b5 b6 b7 : ℕ)
-    → set (set (set (set (set (set (set (set l i b0) (i + 1) b1) (i + 2) b2) (i + 3) b3) (i + 4) b4) (i + 5) b5) (i + 6) b6) (i + 7) b7
+    → set (set (set (set (set (set (set (set l i b0) (i + 1) b1) (i + 2) b2) (i + 3) b3) (i + 4) b4) (i + 5) b5)
+    (i + 6) b6) (i + 7) b7
     ≡ sets l i (b0 ∷ b1 ∷ b2 ∷ b3 ∷ b4 ∷ b5 ∷ b6 ∷ b7 ∷ [])
 eight l i b0 b1 b2 b3 b4 b5 b6 b7 =
     let e1 : i + 1 ≡ suc i = omega arith in
@@ -30,7 +31,8 @@ eight l i b0 b1 b2 b3 b4 b5 b6 b7 =
 
 pub sets-append : (xs ys l : List ℕ) (i : ℕ) → sets (sets l i xs) (i + length xs) ys ≡ sets l i (xs ++ ys)
 sets-append [] ys l i = rw (add-zero i)
-sets-append (x ∷ xs) ys l i = rw (add-suc i (length xs), ← suc-add i (length xs)) (sets-append xs ys (set l i x) (suc i))
+sets-append (x ∷ xs) ys l i =
+    rw (add-suc i (length xs), ← suc-add i (length xs)) (sets-append xs ys (set l i x) (suc i))
 
 pub length-numbers : (xs : List Float) → length (numbersBytes xs) ≡ 8 * length xs
 length-numbers [] = refl
@@ -38,24 +40,31 @@ length-numbers (x ∷ xs) = let h : length (numbersBytes xs) ≡ 8 * length xs =
 
 -- ---- a row of numbers: what is still to be stored from here is the whole from the start
 pub turn : (reply : List ℕ) (at : ℕ) (row : List Float) (i : ℕ) (d : Float) → i < length row
-    → sets (sets reply (at + 8 * i) (numberBytes (getD row i d))) (at + 8 * (i + 1)) (numbersBytes (drop (i + 1) row)) ≡ sets reply (at + 8 * i) (numbersBytes (drop i row))
+    → sets (sets reply (at + 8 * i) (numberBytes (getD row i d))) (at + 8 * (i + 1)) (numbersBytes (drop (i + 1) row))
+    ≡ sets reply (at + 8 * i) (numbersBytes (drop i row))
 turn reply at row i d h =
     let e : at + 8 * (i + 1) ≡ (at + 8 * i) + 8 = omega arith in
-    rw (e, add-one i, drop-cons row i d h) (sets-append (numberBytes (getD row i d)) (numbersBytes (drop (suc i) row)) reply (at + 8 * i))
+    rw (e, add-one i, drop-cons row i d h)
+    (sets-append (numberBytes (getD row i d)) (numbersBytes (drop (suc i) row)) reply (at + 8 * i))
 
-pub done : (reply : List ℕ) (at : ℕ) (row : List Float) (i : ℕ) → length row ≤ i → reply ≡ sets reply (at + 8 * i) (numbersBytes (drop i row))
+pub done : (reply : List ℕ) (at : ℕ) (row : List Float) (i : ℕ) → length row ≤ i
+    → reply ≡ sets reply (at + 8 * i) (numbersBytes (drop i row))
 done reply at row i h = rw (drop-of-length-le row h)
 
 -- ---- the six rows
-module _ (t s j a v p : List Float) (ht : length t ≡ 7) (hs : length s ≡ 7) (hj : length j ≡ 7) (ha : length a ≡ 8) (hv : length v ≡ 8) (hp : length p ≡ 8) where
-  then : (xs : List ℕ) (row : List Float) (l : List ℕ) (n : ℕ) → 4 + length xs ≡ n → sets (sets l 4 xs) n (numbersBytes row) ≡ sets l 4 (xs ++ numbersBytes row)
+module _ (t s j a v p : List Float) (ht : length t ≡ 7) (hs : length s ≡ 7) (hj : length j ≡ 7) (ha : length a ≡ 8)
+    (hv : length v ≡ 8) (hp : length p ≡ 8) where
+  then : (xs : List ℕ) (row : List Float) (l : List ℕ) (n : ℕ) → 4 + length xs ≡ n
+      → sets (sets l 4 xs) n (numbersBytes row) ≡ sets l 4 (xs ++ numbersBytes row)
   then xs row l n e = rw (← e) (sets-append xs (numbersBytes row) l 4)
 
-  longer : (xs : List ℕ) (row : List Float) (m n k : ℕ) → length row ≡ k → 4 + length xs ≡ m → m + 8 * k ≡ n → 4 + length (xs ++ numbersBytes row) ≡ n
+  longer : (xs : List ℕ) (row : List Float) (m n k : ℕ) → length row ≡ k → 4 + length xs ≡ m → m + 8 * k ≡ n
+      → 4 + length (xs ++ numbersBytes row) ≡ n
   longer xs row m n k h e f = rw (length-append xs (numbersBytes row)) (omega (arith, length-numbers row))
 
   pub six-rows : (l : List ℕ) → length l ≡ 364
-      → sets (sets (sets (sets (sets (sets l 4 (numbersBytes t)) 60 (numbersBytes s)) 116 (numbersBytes j)) 172 (numbersBytes a)) 236 (numbersBytes v)) 300 (numbersBytes p)
+      → sets (sets (sets (sets (sets (sets l 4 (numbersBytes t)) 60 (numbersBytes s)) 116 (numbersBytes j)) 172
+      (numbersBytes a)) 236 (numbersBytes v)) 300 (numbersBytes p)
       ≡ take 4 l ++ rowsOf t s j a v p
   unfolding rowsOf
   six-rows l hl =
@@ -77,23 +86,27 @@ module _ (t s j a v p : List Float) (ht : length t ≡ 7) (hs : length s ≡ 7) 
       (sets-eq x6 l 4 h ∙ rw (drop-of-length-le l k) (simp (append-assoc, append-nil)))
 
 -- the first four places after the head is stored
-pub head-first : (r : Answer) (l : List ℕ) → length l ≡ 364 → take 4 (sets l 0 (headOf r)) ≡ headOf r
+pub head-first : (r : Verdict) (l : List ℕ) → length l ≡ 364 → take 4 (sets l 0 (headOf r)) ≡ headOf r
 unfolding headOf
 head-first r l h =
-    let k : 0 + 4 ≤ length l = omega arith in rw (sets-eq (headOf r) l 0 k) (take-append-seam (headOf r) (drop (0 + 4) l))
+    let k : 0 + 4 ≤ length l = omega arith in
+    rw (sets-eq (headOf r) l 0 k) (take-append-seam (headOf r) (drop (0 + 4) l))
 
 -- two runs of stores, one right after the other, over a whole list
-pub both : (xs ys l : List ℕ) (n : ℕ) → 0 + length xs ≡ n → length l ≡ n + length ys → sets (sets l 0 xs) n ys ≡ xs ++ ys
+pub both : (xs ys l : List ℕ) (n : ℕ) → 0 + length xs ≡ n → length l ≡ n + length ys
+    → sets (sets l 0 xs) n ys ≡ xs ++ ys
 both xs ys l n e h =
     let all : 0 + length (xs ++ ys) ≤ length l = rw (length-append xs ys) (omega arith) in
     let none : length l ≤ 0 + length (xs ++ ys) = rw (length-append xs ys) (omega arith) in
-    rw (← e) (sets-append xs ys l 0 ∙ sets-eq (xs ++ ys) l 0 all ∙ rw (drop-of-length-le l none) (append-nil (xs ++ ys)))
+    rw (← e)
+    (sets-append xs ys l 0 ∙ sets-eq (xs ++ ys) l 0 all ∙ rw (drop-of-length-le l none) (append-nil (xs ++ ys)))
 
 -- a quartic's need and then its seven numbers
 pub one-quartic : (l : List ℕ) (at : ℕ) (a b c d : Float) (need : Need) (n : ℕ) (r : Three)
     → r ≡ resolventOf a b c d
     → need ≡ needOf a b c d
     → n ≡ needNumber need
-    → sets (set l at n) (at + 1) (numbersBytes (a ∷ b ∷ c ∷ d ∷ r .x0 ∷ r .x1 ∷ r .x2 ∷ [])) ≡ sets l at (quarticBytesOf a b c d)
+    → sets (set l at n) (at + 1) (numbersBytes (a ∷ b ∷ c ∷ d ∷ r .x0 ∷ r .x1 ∷ r .x2 ∷ []))
+    ≡ sets l at (quarticBytesOf a b c d)
 unfolding quarticBytesOf
 one-quartic l at a b c d need n r er en e = rw (er, e, en, add-one at)

@@ -1,5 +1,5 @@
 -- Where the bytes are half of n, `encode` fills n places or none. Assumes nothing.
-use mathlib.Core.Path.{_≡_, refl, _∙_}
+use mathlib.Core.Path.{_≡_, refl}
 use mathlib.Core.Bool.{Bool, true, false}
 use mathlib.Core.List.{List}
 use Prim.Native.Nat.{ℕ, _*_, _/_, _≤_, _<_}
@@ -21,5 +21,15 @@ unfolding encodeOf writtenOf
 written n bytes lent e = by (leb n (length lent)) refl
   where
     by : (b : Bool) → leb n (length lent) ≡ b → encodeOf bytes lent ≡ writtenOf n bytes lent
-    by true h = rw (h, le-ltb (length lent / 2) (length bytes) (enough (length bytes) (length lent) n e (leb-true n (length lent) h)))
-    by false h = rw (h, lt-ltb (length lent / 2) (length bytes) (few (length bytes) (length lent) n e (leb-false n (length lent) h)))
+    by true h =
+        rw (
+          h,
+          le-ltb (length lent / 2) (length bytes)
+              (enough (length bytes) (length lent) n e (leb-true n (length lent) h)),
+        )
+    by false h =
+        rw (
+          h,
+          lt-ltb (length lent / 2) (length bytes)
+              (few (length bytes) (length lent) n e (leb-false n (length lent) h)),
+        )

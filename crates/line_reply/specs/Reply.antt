@@ -1,5 +1,6 @@
--- The replies: of kinds 00 to 05 the verdict and the whole record, in 364 bytes; of kinds 06 and 07 two quartics, in 114. Definitions only.
-use mathlib.Core.Bool.{Bool, true, false, cond}
+-- The replies: of kinds 00 to 05 the verdict and the whole record, in 364 bytes; of kinds 06 and 07 two quartics, in
+-- 114. Definitions only.
+use mathlib.Core.Bool.{true, false, cond}
 use mathlib.Core.List.{List, [], _∷_, _++_}
 use Prim.Native.Nat.{ℕ}
 use lib.Dec.{leb}
@@ -10,7 +11,7 @@ use Rattle.number_bytes.specs.Bytes.{numberBytes}
 use Rattle.labels.specs.Labels.{labelNumber, directionNumber, signsNumber}
 use Rattle.profile.specs.Parts.{labelsOf}
 use Rattle.profile.specs.declared.Profile.{Profile}
-use Rattle.profile.specs.declared.in_place.Answer.{Answer}
+use Rattle.profile.specs.declared.in_place.Verdict.{Verdict}
 use Rattle.profile.specs.declared.Checked.{Checked}
 use Rattle.roots.specs.Quartic.{needOf, needNumber, resolventOf}
 
@@ -20,7 +21,7 @@ numbersBytes [] = []
 numbersBytes (x ∷ xs) = numberBytes x ++ numbersBytes xs
 
 -- verdict (1 yes), label, direction, signs
-unfoldable pub headOf : Answer → List ℕ
+unfoldable pub headOf : Verdict → List ℕ
 headOf r =
     let l = r .labels in
     cond (r .ok) 1 0 ∷ labelNumber (l .limits) ∷ directionNumber (l .direction) ∷ signsNumber (l .«control_signs») ∷ []
@@ -50,7 +51,9 @@ quarticBytesOf a b c d =
 abbrev pub quarticBytes : List Float → List ℕ
 quarticBytes p = quarticBytesOf (getD p 0 nan) (getD p 1 nan) (getD p 2 nan) (getD p 3 nan)
 
--- A reply of n characters goes into the first lent places; where these are fewer than n the answer is no, and they stay as they came.
+-- A reply of n characters goes into the first lent places; where these are fewer than n the answer is no, and they stay
+-- as they came.
 unfoldable pub writtenOf : ℕ → List ℕ → List ℕ → Filled
 writtenOf n bytes lent =
-    cond (leb n (length lent)) (record { ok = true; left = fill (hexOf bytes) lent }) (record { ok = false; left = lent })
+    cond (leb n (length lent)) (record { ok = true; left = fill (hexOf bytes) lent })
+    (record { ok = false; left = lent })

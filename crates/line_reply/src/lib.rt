@@ -4,7 +4,7 @@ mod record;
 mod stores;
 
 use hex::encode;
-use profile::in_place::Answer;
+use profile::in_place::Verdict;
 use quartics::put_quartics;
 use record::put_record;
 ghost use mathlib.Core.Path.{_≡_};
@@ -14,7 +14,8 @@ ghost use Rattle.line_reply.specs.Reply.{headOf, rowsOf, quarticBytes, w
 
 // The characters of a record's bytes.
 fn send(bytes: &[u8; 364], reply: &mut [u8]) -> bool
-    ensures { λ r. ⌜ record { ok = r; left = now (reply .exit) } ≡ writtenOf recordPlaces (now (bytes .entry)) (now (reply .entry)) ⌝ }
+    ensures { λ r. ⌜ record { ok = r; left = now (reply .exit) }
+        ≡ writtenOf recordPlaces (now (bytes .entry)) (now (reply .entry)) ⌝ }
 {
     encode(bytes, reply)
 }
@@ -22,7 +23,7 @@ fn send(bytes: &[u8; 364], reply: &mut [u8]) -> bool
 // The reply of `check` and of a shape; no, and nothing touched, where the places are fewer.
 pub fn write_record(
     reply: &mut [u8],
-    answer: Answer,
+    answer: Verdict,
     t: &[f64; 7],
     t_sum: &[f64; 7],
     j: &[f64; 7],
@@ -31,7 +32,10 @@ pub fn write_record(
     p: &[f64; 8],
 ) -> bool
     ensures { λ r. ⌜ record { ok = r; left = now (reply .exit) }
-        ≡ writtenOf recordPlaces (headOf answer ++ rowsOf (now (t .entry)) (now («t_sum» .entry)) (now (j .entry)) (now (a .entry)) (now (v .entry)) (now (p .entry))) (now (reply .entry)) ⌝ }
+        ≡ writtenOf recordPlaces
+        (headOf answer ++ rowsOf (now (t .entry)) (now («t_sum» .entry)) (now (j .entry)) (now (a .entry))
+        (now (v .entry)) (now (p .entry)))
+        (now (reply .entry)) ⌝ }
 {
     let mut bytes = [0u8; 364];
     put_record(&mut bytes, answer, t, t_sum, j, a, v, p);
@@ -40,7 +44,8 @@ pub fn write_record(
 
 // The reply of two quartics; no, and nothing touched, where the places are fewer.
 pub fn write_quartics(reply: &mut [u8], uddu: [f64; 4], udud: [f64; 4]) -> bool
-    ensures { λ r. ⌜ record { ok = r; left = now (reply .exit) } ≡ writtenOf quarticsPlaces (quarticBytes uddu ++ quarticBytes udud) (now (reply .entry)) ⌝ }
+    ensures { λ r. ⌜ record { ok = r; left = now (reply .exit) }
+        ≡ writtenOf quarticsPlaces (quarticBytes uddu ++ quarticBytes udud) (now (reply .entry)) ⌝ }
 {
     let mut bytes = [0u8; 114];
     put_quartics(&mut bytes, uddu, udud);

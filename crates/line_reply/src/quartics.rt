@@ -1,4 +1,5 @@
-// The reply of kinds 06 and 07: for each of two quartics what it needs, its coefficients, and the resolvent's arguments.
+// The reply of kinds 06 and 07: for each of two quartics what it needs, its coefficients,
+// and the resolvent's arguments.
 use super::stores::put_row;
 use roots::need_number;
 use roots::quartic_need;

@@ -3,7 +3,7 @@ use super::stores::put_row;
 use labels::direction_number;
 use labels::label_number;
 use labels::signs_number;
-use profile::in_place::Answer;
+use profile::in_place::Verdict;
 ghost use mathlib.Core.Path.{_≡_};
 ghost use mathlib.Core.Bool.{cond};
 ghost use mathlib.Core.List.{_++_};
@@ -12,7 +12,7 @@ ghost use lib.Seq.{sets};
 ghost use Rattle.line_reply.specs.Reply.{headOf, rowsOf};
 
 // Verdict, label, direction and signs.
-fn put_head(bytes: &mut [u8; 364], answer: Answer)
+fn put_head(bytes: &mut [u8; 364], answer: Verdict)
     ensures { λ _. ⌜ now (bytes .exit) ≡ sets (now (bytes .entry)) 0 (headOf answer) ⌝ }
 {
     let labels = answer.labels;
@@ -41,7 +41,10 @@ fn put_rows(
     p: &[f64; 8],
 )
     requires { ⌜ length (now bytes) ≡ 364 ⌝ }
-    ensures { λ _. ⌜ now (bytes .exit) ≡ take 4 (now (bytes .entry)) ++ rowsOf (now (t .entry)) (now («t_sum» .entry)) (now (j .entry)) (now (a .entry)) (now (v .entry)) (now (p .entry)) ⌝ }
+    ensures { λ _. ⌜ now (bytes .exit)
+        ≡ take 4 (now (bytes .entry))
+        ++ rowsOf (now (t .entry)) (now («t_sum» .entry)) (now (j .entry)) (now (a .entry)) (now (v .entry))
+        (now (p .entry)) ⌝ }
 {
     put_row(bytes, 4, t);
     put_row(bytes, 60, t_sum);
@@ -53,7 +56,7 @@ fn put_rows(
 
 pub fn put_record(
     bytes: &mut [u8; 364],
-    answer: Answer,
+    answer: Verdict,
     t: &[f64; 7],
     t_sum: &[f64; 7],
     j: &[f64; 7],
@@ -62,7 +65,9 @@ pub fn put_record(
     p: &[f64; 8],
 )
     requires { ⌜ length (now bytes) ≡ 364 ⌝ }
-    ensures { λ _. ⌜ now (bytes .exit) ≡ headOf answer ++ rowsOf (now (t .entry)) (now («t_sum» .entry)) (now (j .entry)) (now (a .entry)) (now (v .entry)) (now (p .entry)) ⌝ }
+    ensures { λ _. ⌜ now (bytes .exit)
+        ≡ headOf answer ++ rowsOf (now (t .entry)) (now («t_sum» .entry)) (now (j .entry)) (now (a .entry))
+        (now (v .entry)) (now (p .entry)) ⌝ }
 {
     put_head(bytes, answer);
     put_rows(bytes, t, t_sum, j, a, v, p);

@@ -1,4 +1,5 @@
--- The ways out of the line entry: what `outcomeOf` is, from what each of its parts says on the way there. Assumes nothing.
+-- Assumes nothing. The ways out of the line entry: what `outcomeOf` is, from what each of
+-- its parts says on the way there.
 use mathlib.Core.Path.{_≡_, refl, ap, sym, _∙_, fun-ext}
 use mathlib.Core.Bool.{Bool, true, false, cond, not, _&&_}
 use mathlib.Core.List.{List, [], _∷_, _++_}
@@ -93,7 +94,8 @@ module _ (line lent : List ℕ) where
     unfolding answerOf
     second k =
         numbered 2
-        (refused _ lent (ask 1 (lengthFits (length line)) ∷ []) 2 _ (h1, tt) (sym (ap (λ x. x .ok) decoded) ∙ k) (λ e. omega arith))
+        (refused _ lent (ask 1 (lengthFits (length line)) ∷ []) 2 _ (h1, tt) (sym (ap (λ x. x .ok) decoded) ∙ k)
+        (λ e. omega arith))
         (λ e. omega arith)
 
     pub frame-is : byteAt bytes ≡ at
@@ -118,7 +120,8 @@ module _ (line lent : List ℕ) where
         kind-is : isKind row ≡ true
         kind-is = rw (← row-is, ne-eqb (r .bytes) 0 h3)
 
-        pub fourth : (length line / 2 ≡ r .bytes → ⊥) → record { number = 4; filled = 0; places = lent } ≡ outcomeOf line lent
+        pub fourth : (length line / 2 ≡ r .bytes → ⊥)
+            → record { number = 4; filled = 0; places = lent } ≡ outcomeOf line lent
         unfolding answerOf
         fourth d =
             numbered 4

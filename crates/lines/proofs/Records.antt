@@ -1,4 +1,5 @@
--- The record that a line's arrays hold, and the reply to it: from what `check` or a shape in place answers on the line's numbers.
+-- The record that a line's arrays hold, and the reply to it:
+-- from what `check` or a shape in place answers on the line's numbers.
 -- Assumes nothing.
 use mathlib.Core.Path.{_≡_, refl, _∙_}
 use mathlib.Core.List.{List, [], _∷_, _++_}
@@ -10,7 +11,7 @@ use Rattle.labels.specs.declared.ControlSigns.{ControlSigns}
 use Rattle.labels.specs.declared.Labels.{Labels}
 use Rattle.labels.specs.Labels.{signsOf, labelOf, startLabels}
 use Rattle.profile.specs.declared.Profile.{Profile}
-use Rattle.profile.specs.declared.in_place.Answer.{Answer}
+use Rattle.profile.specs.declared.in_place.Verdict.{Verdict}
 use Rattle.profile.specs.declared.Checked.{Checked}
 use Rattle.profile.specs.declared.in_place.Goal.{Goal}
 use Rattle.profile.specs.Parts.{profileOf}
@@ -31,10 +32,11 @@ abbrev started : (t : List Float) (p0 v0 a0 : Float) → Goal → Labels → Pro
 started t p0 v0 a0 goal l = profileOf t zeros zeros (record { a = a0 ∷ zeros; v = v0 ∷ zeros; p = p0 ∷ zeros }) goal l
 
 -- what the arrays hold afterwards
-abbrev ended : (t s j a v p : List Float) → Goal → Answer → Checked
-ended t s j a v p goal r = record { ok = r .ok; profile = profileOf t s j (record { a = a; v = v; p = p }) goal (r .labels) }
+abbrev ended : (t s j a v p : List Float) → Goal → Verdict → Checked
+ended t s j a v p goal r =
+    record { ok = r .ok; profile = profileOf t s j (record { a = a; v = v; p = p }) goal (r .labels) }
 
-module _ (t s j a v p : List Float) (goal : Goal) (r : Answer) where
+module _ (t s j a v p : List Float) (goal : Goal) (r : Verdict) where
   replied : (c : Checked) → ended t s j a v p goal r ≡ c → headOf r ++ rowsOf t s j a v p ≡ replyBytesOf c
   unfolding replyBytesOf headOf
   replied c e = rw (← e)

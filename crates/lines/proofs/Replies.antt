@@ -1,4 +1,5 @@
--- The ways out of a reply, over any questions: a number, and the places as they came; or the reply in the first of them. Assumes nothing.
+-- Assumes nothing. The ways out of a reply, over any questions: a number, and the places as they came;
+-- or the reply in the first of them.
 use mathlib.Core.Path.{_≡_, refl, ap, _∙_}
 use mathlib.Core.Bool.{Bool, true, false}
 use mathlib.Core.List.{List, _∷_, _++_}
@@ -13,7 +14,8 @@ use Rattle.lines.specs.Answer.{repliedOf}
 
 module _ (bytes lent : List ℕ) where
   -- the first were answered yes, and the next gets a no
-  pub refused : (first : List Question) (n : ℕ) (rest : List Question) {b : Bool} → AllYes first → b ≡ false → (n ≡ 0 → ⊥)
+  pub refused : (first : List Question) (n : ℕ) (rest : List Question) {b : Bool} → AllYes first → b ≡ false
+      → (n ≡ 0 → ⊥)
       → record { number = n; places = lent } ≡ repliedOf (first ++ (ask n b ∷ rest)) bytes lent
   unfolding repliedOf
   refused first n rest h e z = rw (stops first n rest h e, ne-eqb n 0 z)

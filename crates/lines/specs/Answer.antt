@@ -26,7 +26,8 @@ replyOf OfCheck at = replyBytesOf (checkLineOf at)
 replyOf (OfShape shape) at = replyBytesOf (shapeLineOf shape at)
 replyOf (OfQuartics shape) at = quarticLineOf shape at
 
--- 0, with the reply's characters in the first lent places; or the number of the first question with a no, and the places as they came
+-- 0, with the reply's characters in the first lent places;
+-- or the number of the first question with a no, and the places as they came
 unfoldable pub repliedOf : List Question → List ℕ → List ℕ → Answer
 repliedOf qs bytes lent =
     let number = firstNo qs in

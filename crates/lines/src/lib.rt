@@ -1,4 +1,5 @@
-// The line entry: one frame a line, in hexadecimal digits, answered by a reply or by the number of the first question that it fails.
+// The line entry: one frame a line, in hexadecimal digits, answered by a reply or by the number of
+// the first question that it fails.
 mod check_line;
 mod quartic_line;
 mod replying;

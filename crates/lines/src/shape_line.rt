@@ -1,4 +1,5 @@
-// Kinds 01 to 05: a shape on a default profile after `set_boundary`. The twelve numbers, the solver and the quartics are worked out once.
+// Kinds 01 to 05: a shape on a default profile after `set_boundary`.
+// The twelve numbers, the solver and the quartics are worked out once.
 use labels::start_labels;
 use line_frame::first_answer;
 use line_frame::move_numbers;

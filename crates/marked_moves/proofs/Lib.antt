@@ -1,1 +1,2 @@
+-- The theorem of the marked moves.
 pub mod Table

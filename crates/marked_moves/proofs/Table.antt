@@ -1,4 +1,5 @@
--- The moves that document 01 works through, as lines: each gets the verdict and the numbers that the document gives. Computed; assumes nothing.
+-- The moves that document 01 works through, as lines: each gets the verdict and the numbers that the document gives.
+-- Computed; assumes nothing.
 use mathlib.Core.Bool.{true}
 use mathlib.Core.Path.{_≡_, refl}
 use lib.Ieee.{ofBits, toBits, lt, le, eq, neg, add, sub, mul, div}
@@ -16,21 +17,33 @@ use Rattle.phases.specs.Phase.{replacedOf, zeroInsideOf, nodeOf, phaseOf}
 use Rattle.profile.specs.Check.{arrivedOf, keptOf, checkOf}
 use Rattle.profile.specs.Boundary.{boundaryOf}
 use Rattle.step2_solver.specs.New.{newOf}
-use Rattle.step2_solver.specs.TimeAcc0Acc1Vel.{acc0Acc1VelUdduApplies, acc0Acc1VelUdduRadicand, acc0Acc1VelUdduH1, acc0Acc1VelUdduT1, acc0Acc1VelUdduTimes, acc0Acc1VelUdudApplies, acc0Acc1VelUdudT1, acc0Acc1VelUdudT3, acc0Acc1VelUdudTimes}
-use Rattle.step2_solver.specs.TimeAcc0Acc1.{acc0Acc1RestApplies, acc0Acc1RestH1, acc0Acc1RestH2, acc0Acc1RestJf, acc0Acc1RestT1, acc0Acc1RestTimes}
-use Rattle.step2_attempt.specs.Attempt.{attemptOf}
-use Rattle.step2_shapes.specs.TimeAcc0Acc1Vel.{acc0Acc1VelUddu, acc0Acc1VelUdud, timeAcc0Acc1VelOf}
-use Rattle.step2_shapes.specs.TimeAcc0Acc1.{acc0Acc1Rest, timeAcc0Acc1Of}
+use Rattle.step2_solver.specs.TimeAcc0Acc1Vel.{acc0Acc1VelUdduApplies, acc0Acc1VelUdduRadicand, acc0Acc1VelUdduH1}
+use Rattle.step2_solver.specs.TimeAcc0Acc1Vel.{acc0Acc1VelUdduT1, acc0Acc1VelUdduTimes, acc0Acc1VelUddu}
+use Rattle.step2_solver.specs.TimeAcc0Acc1Vel.{acc0Acc1VelUdudApplies, acc0Acc1VelUdudT1, acc0Acc1VelUdudT3}
+use Rattle.step2_solver.specs.TimeAcc0Acc1Vel.{acc0Acc1VelUdudTimes, acc0Acc1VelUdud}
+use Rattle.step2_solver.specs.TimeAcc0Acc1.{acc0Acc1RestApplies, acc0Acc1RestH1, acc0Acc1RestH2, acc0Acc1RestJf}
+use Rattle.step2_solver.specs.TimeAcc0Acc1.{acc0Acc1RestT1, acc0Acc1RestTimes, acc0Acc1Rest}
+use Rattle.step2_attempt.specs.Attempt.{attemptOf, tryOf, triedOf}
+use Rattle.line_kinds.specs.Kinds.{rowOf}
 use Rattle.line_frame.specs.Frame.{wordAt}
-use Rattle.line_frame.specs.Numbers.{checkNumbersOf, shapeNumbersOf, rootAnswerOf}
+use Rattle.line_frame.specs.Numbers.{checkNumbersOf, moveOf, rootAnswerOf}
 use Rattle.line_reply.specs.Reply.{headOf, rowsOf, replyBytesOf}
-use Rattle.lines.specs.CheckLine.{checkLineOf}
+use Rattle.line_questions.specs.Questions.{countsFit, countsSuit, questionsOf}
+use Rattle.lines.specs.CheckLine.{checkedOf}
 use Rattle.lines.specs.ShapeLine.{shapeLineOf}
-use Rattle.line_questions.specs.Kinds.{frameBytes, replyPlaces}
-use Rattle.line_questions.specs.Questions.{bytesFit, numbersFit, countsFit}
-use Rattle.lines.specs.Answer.{replyOf, answerOf}
+use Rattle.lines.specs.Answer.{replyOf, repliedOf, answerOf}
 use Rattle.marked_moves.specs.Moves.{table, right}
 
 pub marked-moves : right table ≡ true
-unfolding ofBits toBits lt le eq neg add sub mul div absOf integrateOf sqrtOf holds insertOf insertAllOf intoOf sortedOf needOf factorsOf quadraticOf withoutCdOf withCbrtOf resolvedOf offeredOf rootsOf testsOf jerksOf run sumStep sumsOf refusedOf bandOf replacedOf zeroInsideOf nodeOf phaseOf arrivedOf keptOf checkOf boundaryOf newOf acc0Acc1VelUdduApplies acc0Acc1VelUdduRadicand acc0Acc1VelUdduH1 acc0Acc1VelUdduT1 acc0Acc1VelUdduTimes acc0Acc1VelUdudApplies acc0Acc1VelUdudT1 acc0Acc1VelUdudT3 acc0Acc1VelUdudTimes acc0Acc1RestApplies acc0Acc1RestH1 acc0Acc1RestH2 acc0Acc1RestJf acc0Acc1RestT1 acc0Acc1RestTimes attemptOf acc0Acc1VelUddu acc0Acc1VelUdud timeAcc0Acc1VelOf acc0Acc1Rest timeAcc0Acc1Of wordAt checkNumbersOf shapeNumbersOf rootAnswerOf headOf rowsOf replyBytesOf checkLineOf shapeLineOf frameBytes replyPlaces bytesFit numbersFit countsFit replyOf answerOf table
+unfolding ofBits toBits lt le eq neg add sub mul div absOf integrateOf sqrtOf
+    holds insertOf insertAllOf intoOf sortedOf
+    needOf factorsOf quadraticOf withoutCdOf withCbrtOf resolvedOf offeredOf rootsOf
+    testsOf jerksOf run sumStep sumsOf refusedOf bandOf replacedOf zeroInsideOf nodeOf phaseOf
+    arrivedOf keptOf checkOf boundaryOf newOf
+    acc0Acc1VelUdduApplies acc0Acc1VelUdduRadicand acc0Acc1VelUdduH1 acc0Acc1VelUdduT1 acc0Acc1VelUdduTimes
+    acc0Acc1VelUddu acc0Acc1VelUdudApplies acc0Acc1VelUdudT1 acc0Acc1VelUdudT3 acc0Acc1VelUdudTimes acc0Acc1VelUdud
+    acc0Acc1RestApplies acc0Acc1RestH1 acc0Acc1RestH2 acc0Acc1RestJf acc0Acc1RestT1 acc0Acc1RestTimes acc0Acc1Rest
+    attemptOf tryOf triedOf
+    rowOf wordAt checkNumbersOf moveOf rootAnswerOf headOf rowsOf replyBytesOf countsFit countsSuit questionsOf
+    checkedOf shapeLineOf replyOf repliedOf answerOf table
 marked-moves = refl

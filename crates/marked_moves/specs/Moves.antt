@@ -1,4 +1,5 @@
--- The moves that document 01 works through, as rows of one table: each move is a line, and its row says what the line entry answers. Definitions only.
+-- The moves that document 01 works through, as rows of one table: each move is a line, and its row says what the line
+-- entry answers. Definitions only.
 use mathlib.Core.Bool.{Bool, true, false, _&&_}
 use mathlib.Core.List.{List, [], _∷_, _++_}
 use Prim.Native.Nat.{ℕ, _+_, _*_}
@@ -57,14 +58,17 @@ least-negative = ofBits binary64 0x8000_0000_0000_0001
 abbrev answered : List ℕ → Answer
 answered frame = answerOf (hexOf frame) (replicate 728 0)
 
--- Kind 00, with set_limits 0: the start is at rest in 0 but for a0, jf is 1, af is 0, the limits are plus and minus v and a.
+-- Kind 00, with set_limits 0: the start is at rest in 0 but for a0, jf is 1, af is 0, the limits are plus and minus v
+-- and a.
 abbrev asked : (signs label : ℕ) (t : List Float) (a0 pf vf v a : Float) → Answer
 asked signs label t a0 pf vf v a =
-    answered (0x00 ∷ signs ∷ label ∷ 0 ∷ numbersBytes (t ++ (#0 ∷ #0 ∷ a0 ∷ pf ∷ vf ∷ #0 ∷ #1 ∷ v ∷ neg v ∷ a ∷ neg a ∷ [])))
+    answered
+    (0x00 ∷ signs ∷ label ∷ 0 ∷ numbersBytes (t ++ (#0 ∷ #0 ∷ a0 ∷ pf ∷ vf ∷ #0 ∷ #1 ∷ v ∷ neg v ∷ a ∷ neg a ∷ [])))
 
 -- Kinds 01 and 04, from rest in 0 to rest in pf: j_max is 1, the limits are plus and minus v and a.
 abbrev moved : (kind : ℕ) (tf pf v a : Float) → Answer
-moved kind tf pf v a = answered (kind ∷ numbersBytes (tf ∷ #0 ∷ #0 ∷ #0 ∷ pf ∷ #0 ∷ #0 ∷ v ∷ neg v ∷ a ∷ neg a ∷ #1 ∷ []))
+moved kind tf pf v a =
+    answered (kind ∷ numbersBytes (tf ∷ #0 ∷ #0 ∷ #0 ∷ pf ∷ #0 ∷ #0 ∷ v ∷ neg v ∷ a ∷ neg a ∷ #1 ∷ []))
 
 -- document 01's numbers
 abbrev UDDU : ℕ
@@ -153,7 +157,8 @@ table =
     -- quartic -3 2 0 0 inserts 0, 1, 2
     ∷ all-same (sortedOf (rootsOf (neg #3) #2 #0 #0 (CubeRoot #0))) (#0 ∷ #1 ∷ #2 ∷ [])
     -- whole case: 00000700 and 288 zeros print 01070100 and 720 zeros
-    ∷ all-equal (answerOf (48 ∷ 48 ∷ 48 ∷ 48 ∷ 48 ∷ 55 ∷ 48 ∷ 48 ∷ replicate 288 48) (replicate 728 0) .places) (48 ∷ 49 ∷ 48 ∷ 55 ∷ 48 ∷ 49 ∷ 48 ∷ 48 ∷ replicate 720 48)
+    ∷ all-equal (answerOf (48 ∷ 48 ∷ 48 ∷ 48 ∷ 48 ∷ 55 ∷ 48 ∷ 48 ∷ replicate 288 48) (replicate 728 0) .places)
+    (48 ∷ 49 ∷ 48 ∷ 55 ∷ 48 ∷ 49 ∷ 48 ∷ 48 ∷ replicate 720 48)
     -- an empty line gets number 1
     ∷ eqb (answerOf [] (replicate 728 0) .number) 1
     ∷ []

@@ -4,12 +4,12 @@ use Prim.Native.Nat.{ℕ, _+_, _*_, _/_, _%_}
 use lib.Ieee.{Float, binary64, ofBits, toBits}
 
 -- the number that bytes stand for after those that stand for w
-abbrev pub after : ℕ → List ℕ → ℕ
-after w [] = w
-after w (b ∷ bs) = after (256 * w + b) bs
+abbrev pub appended : ℕ → List ℕ → ℕ
+appended w [] = w
+appended w (b ∷ bs) = appended (256 * w + b) bs
 
 abbrev pub wordOf : List ℕ → ℕ
-wordOf bs = after 0 bs
+wordOf bs = appended 0 bs
 
 -- the eight bytes of a word below 2 ^ 64
 abbrev pub wordBytes : ℕ → List ℕ

@@ -1,4 +1,5 @@
-// Rust's `u64::from_be_bytes` and `f64::to_be_bytes`: eight bytes, the highest first; and whether bits are those of a finite number.
+// Rust's `u64::from_be_bytes` and `f64::to_be_bytes`: eight bytes, the highest first;
+// and whether bits are those of a finite number.
 ghost use mathlib.Core.Path.{_≡_};
 ghost use mathlib.Core.List.{[], _∷_};
 ghost use lib.Ieee.{binary64, ofBits};

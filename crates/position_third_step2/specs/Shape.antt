@@ -1,5 +1,4 @@
 -- The five shapes: the attempts that each makes, in their order, and what comes of them on a profile. Definitions only.
-use Prim.Native.Nat.{ℕ}
 use mathlib.Core.Bool.{cond}
 use mathlib.Core.List.{List, [], _∷_, _++_, map}
 use lib.Ieee.{Float}
@@ -24,14 +23,6 @@ use Rattle.step2_solver_quartic.specs.TimeAcc0Vel.{acc0VelTooShort}
 use Rattle.step2_solver_quartic.specs.TimeAcc0Vel.{acc0VelUdduWindow, acc0VelUddu, acc0VelUdudWindow, acc0VelUdud}
 use Rattle.step2_solver_quartic.specs.Quartics.{quarticsOf}
 use Rattle.step2_attempt.specs.Attempt.{triedOf}
-
--- document 01's kind for each shape
-abbrev pub shapeKind : Shape → ℕ
-shapeKind Acc0Acc1Vel = 0x01
-shapeKind Acc1Vel = 0x02
-shapeKind Acc0Vel = 0x03
-shapeKind Acc0Acc1 = 0x04
-shapeKind Acc0 = 0x05
 
 -- an attempt at each root of a quartic, from the smallest on
 abbrev pub overRoots : (Float → Trial) → List Float → RootAnswer → List Trial

@@ -1,7 +1,7 @@
 // The third shape: the first acceleration and the velocity reach their limits.
 use labels::Labels;
-use profile::in_place::Answer;
 use profile::in_place::Goal;
+use profile::in_place::Verdict;
 use roots::RootAnswer;
 use roots::sorted_roots;
 use step2_attempt::tried;
@@ -33,7 +33,7 @@ fn uddu(
     p: &mut [f64; 8],
     goal: Goal,
     labels: Labels,
-) -> Answer
+) -> Verdict
     ensures { λ r. ⌜ record {
       ok = r .ok;
       profile = profileOf (now (t .exit)) (now («t_sum» .exit)) (now (j .exit))
@@ -56,7 +56,7 @@ fn uddu(
         }
         left = r.labels;
     }
-    Answer {
+    Verdict {
         ok: false,
         labels: left,
     }
@@ -76,7 +76,7 @@ fn udud(
     p: &mut [f64; 8],
     goal: Goal,
     labels: Labels,
-) -> Answer
+) -> Verdict
     ensures { λ r. ⌜ record {
       ok = r .ok;
       profile = profileOf (now (t .exit)) (now («t_sum» .exit)) (now (j .exit))
@@ -99,7 +99,7 @@ fn udud(
         }
         left = r.labels;
     }
-    Answer {
+    Verdict {
         ok: false,
         labels: left,
     }
@@ -119,7 +119,7 @@ pub fn time_acc0_vel(
     p: &mut [f64; 8],
     goal: Goal,
     labels: Labels,
-) -> Answer
+) -> Verdict
     ensures { λ r. ⌜ record {
       ok = r .ok;
       profile = profileOf (now (t .exit)) (now («t_sum» .exit)) (now (j .exit))
@@ -132,7 +132,7 @@ pub fn time_acc0_vel(
         (record { a = now (a .entry); v = now (v .entry); p = now (p .entry) }) goal labels) ⌝ }
 {
     if time_acc0_vel::too_short(s, l.a_max, l.j_max) {
-        return Answer { ok: false, labels };
+        return Verdict { ok: false, labels };
     }
     let uddu_quartic = q.uddu;
     let r = uddu(

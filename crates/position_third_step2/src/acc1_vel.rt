@@ -1,7 +1,7 @@
 // The second shape: the second acceleration and the velocity reach their limits.
 use labels::Labels;
-use profile::in_place::Answer;
 use profile::in_place::Goal;
+use profile::in_place::Verdict;
 use roots::RootAnswer;
 use roots::sorted_roots;
 use step2_attempt::tried;
@@ -32,7 +32,7 @@ fn uddu(
     p: &mut [f64; 8],
     goal: Goal,
     labels: Labels,
-) -> Answer
+) -> Verdict
     ensures { λ r. ⌜ record {
       ok = r .ok;
       profile = profileOf (now (t .exit)) (now («t_sum» .exit)) (now (j .exit))
@@ -55,7 +55,7 @@ fn uddu(
         }
         left = r.labels;
     }
-    Answer {
+    Verdict {
         ok: false,
         labels: left,
     }
@@ -75,7 +75,7 @@ fn udud(
     p: &mut [f64; 8],
     goal: Goal,
     labels: Labels,
-) -> Answer
+) -> Verdict
     ensures { λ r. ⌜ record {
       ok = r .ok;
       profile = profileOf (now (t .exit)) (now («t_sum» .exit)) (now (j .exit))
@@ -98,7 +98,7 @@ fn udud(
         }
         left = r.labels;
     }
-    Answer {
+    Verdict {
         ok: false,
         labels: left,
     }
@@ -118,7 +118,7 @@ pub fn time_acc1_vel(
     p: &mut [f64; 8],
     goal: Goal,
     labels: Labels,
-) -> Answer
+) -> Verdict
     ensures { λ r. ⌜ record {
       ok = r .ok;
       profile = profileOf (now (t .exit)) (now («t_sum» .exit)) (now (j .exit))

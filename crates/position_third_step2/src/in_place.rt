@@ -5,8 +5,8 @@ use crate::acc0_acc1_vel::time_acc0_acc1_vel;
 use crate::acc0_vel::time_acc0_vel;
 use crate::acc1_vel::time_acc1_vel;
 use labels::Labels;
-use profile::in_place::Answer;
 use profile::in_place::Goal;
+use profile::in_place::Verdict;
 use roots::RootAnswer;
 use step2_solver::Limits;
 use step2_solver::PositionThirdOrderStep2;
@@ -33,7 +33,7 @@ pub fn ask(
     p: &mut [f64; 8],
     goal: Goal,
     labels: Labels,
-) -> Answer
+) -> Verdict
     ensures { λ r. ⌜ record {
       ok = r .ok;
       profile = profileOf (now (t .exit)) (now («t_sum» .exit)) (now (j .exit))

@@ -7,10 +7,8 @@ mod acc1_vel;
 pub mod in_place;
 
 use in_place::ask;
-use labels::Labels;
 use profile::Checked;
 use profile::Profile;
-use profile::in_place::Goal;
 use roots::RootAnswer;
 use step2_solver::Limits;
 use step2_solver::PositionThirdOrderStep2;
@@ -37,19 +35,8 @@ fn asked(
     let mut a = profile.a;
     let mut v = profile.v;
     let mut p = profile.p;
-    let goal = Goal {
-        pf: profile.pf,
-        vf: profile.vf,
-        af: profile.af,
-    };
-    let was_limits = profile.limits;
-    let was_direction = profile.direction;
-    let was_signs = profile.control_signs;
-    let labels = Labels {
-        limits: was_limits,
-        direction: was_direction,
-        control_signs: was_signs,
-    };
+    let goal = profile.goal();
+    let labels = profile.labels();
     let q = quartics_of(shape, s, l);
     let answer = ask(
         shape,
@@ -68,25 +55,9 @@ fn asked(
         labels,
     );
     let now = answer.labels;
-    let now_limits = now.limits;
-    let now_direction = now.direction;
-    let now_signs = now.control_signs;
     Checked {
         ok: answer.ok,
-        profile: Profile {
-            t,
-            t_sum,
-            j,
-            a,
-            v,
-            p,
-            pf: profile.pf,
-            vf: profile.vf,
-            af: profile.af,
-            limits: now_limits,
-            direction: now_direction,
-            control_signs: now_signs,
-        },
+        profile: Profile::from_parts(t, t_sum, j, a, v, p, goal, now),
     }
 }
 

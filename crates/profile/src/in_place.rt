@@ -28,7 +28,7 @@ pub struct Goal {
     pub af: f64,
 }
 
-pub struct Answer {
+pub struct Verdict {
     pub ok: bool,
     pub labels: Labels,
 }
@@ -77,7 +77,7 @@ pub fn check(
     v_min: f64,
     a_max: f64,
     a_min: f64,
-) -> Answer
+) -> Verdict
     ensures { λ r. ⌜ record {
       ok = r .ok;
       profile = profileOf (now (t .entry)) (now («t_sum» .exit)) (now (j .exit))
@@ -90,17 +90,17 @@ pub fn check(
     let was_limits = labels.limits;
     let was_signs = labels.control_signs;
     if !sums(t, t_sum) {
-        return Answer { ok: false, labels };
+        return Verdict { ok: false, labels };
     }
     let made = tests_under(limits);
     if refused(made, t, t_sum) {
-        return Answer { ok: false, labels };
+        return Verdict { ok: false, labels };
     }
     jerks(control_signs, t, jf, j);
     let way = direction(v_max);
     let v_band = widened(v_max, v_max, v_min);
     if !nodes(t, j, a, v, p, made, set_limits, a_max, a_min, v_band) {
-        return Answer {
+        return Verdict {
             ok: false,
             labels: Labels {
                 limits: was_limits,
@@ -110,7 +110,7 @@ pub fn check(
         };
     }
     let a_band = widened(v_max, a_max, a_min);
-    Answer {
+    Verdict {
         ok: arrived(a, v, p, goal) & kept(a, v, p, a_band, v_band),
         labels: Labels {
             limits,

@@ -81,7 +81,8 @@ pub jerk-is : (signs : ControlSigns) (t : List Float) (jf : Float) (i : ℕ) →
     → getD (jerksOf signs t jf) i nan ≡ jerkOf (getD (patternOf signs) i Zero) (getD t i nan) jf
 unfolding jerksOf
 jerk-is signs t jf =
-    by-seven (λ (i : ℕ). getD (jerksOf signs t jf) i nan ≡ jerkOf (getD (patternOf signs) i Zero) (getD t i nan) jf) refl
+    by-seven (λ (i : ℕ). getD (jerksOf signs t jf) i nan ≡ jerkOf (getD (patternOf signs) i Zero) (getD t i nan) jf)
+    refl
     refl refl refl refl refl refl
 
 signed-fits : (s : Sign) (jf : Float) → T (fits binary64 jf) → T (fits binary64 (signedOf s jf))

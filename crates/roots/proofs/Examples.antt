@@ -1,4 +1,5 @@
--- Quartics and insertions worked through by antt: document 01's -3 2 0 0, a cube root that suits and an answer that does not, and -0. Assumes nothing.
+-- Assumes nothing. Quartics and insertions worked through by antt:
+-- document 01's -3 2 0 0, a cube root that suits and an answer that does not, and -0.
 use Prim.Native.Nat.{ℕ}
 use mathlib.Core.Path.{_≡_, refl}
 use mathlib.Core.List.{[], _∷_}

@@ -1,13 +1,13 @@
--- What holds of every quartic's roots: at most four, none below 0 or NaN, each an f64; and of the order of trial, which keeps these and ascends.
+-- What holds of every quartic's roots: at most four, none below 0 or NaN, each an f64; and of the order of trial, which
+-- keeps these and ascends.
 -- Assumes nothing.
-use Prim.Native.Nat.{ℕ, zero, suc, _*_, _≤_, _<_, zero-le}
-use mathlib.Core.Path.{_≡_, refl, sym, _∙_}
+use Prim.Native.Nat.{ℕ, _*_, _≤_, zero-le}
+use mathlib.Core.Path.{_≡_, refl, sym}
 use mathlib.Core.Bool.{Bool, true, false, not, cond, true≢false}
 use mathlib.Core.List.{List, [], _∷_, _++_}
 use native.Mathlib.Omega.{arith}
 use lib.Dec.{T, ltb}
-use lib.ListN.{length, getD, length-append, length-take, List·getD-append}
-use lib.Seq.{getD-take}
+use lib.ListN.{length, length-append}
 use lib.Ieee.{Float, nan, inf, fin, binary64, ofBits, lt, le, neg, fits, isNan, up, down, below}
 use lib.Ieee.Fits.{neg-fits, div-fits}
 use lib.Ieee.Bits.{ofBits-fits}
@@ -20,8 +20,9 @@ use Rattle.roots.specs.declared.Need.{Need}
 use Rattle.roots.specs.declared.Need.the-variants.{Nothing, Cube, Resolvent}
 use Rattle.roots.specs.declared.RootAnswer.{RootAnswer}
 use Rattle.roots.specs.declared.RootAnswer.the-variants.{CubeRoot, Resolved}
-use Rattle.roots.specs.Set.{placesOf, insertOf, insertAllOf, intoOf, sortedOf}
-use Rattle.roots.specs.Quartic.{needOf, chosenOf, factorsOf, quadraticOf, withoutCdOf, withCbrtOf, resolvedOf, offeredOf, rootsOf}
+use Rattle.roots.specs.Set.{insertOf, insertAllOf, intoOf, sortedOf}
+use Rattle.roots.specs.Quartic.{needOf, chosenOf, factorsOf, quadraticOf, withoutCdOf, withCbrtOf, resolvedOf}
+use Rattle.roots.specs.Quartic.{offeredOf, rootsOf}
 use Rattle.roots.proofs.Sets.{insert-cases, insertAll-length, sorted-length}
 
 -- ---- a fact of every entry of a list
@@ -30,11 +31,6 @@ Every P [] = Unit {0}
 Every P (x ∷ l) = P x × Every P l
 
 module _ {A : Type 0} (P : A → Type 0) where
-  pub every-at : (l : List A) → Every P l → (i : ℕ) (z : A) → i < length l → P (getD l i z)
-  every-at [] e i z h = absurd (omega arith)
-  every-at (x ∷ l) e zero z h = e .0
-  every-at (x ∷ l) e (suc i) z h = every-at l (e .1) i z (omega arith)
-
   pub every-of-all : ((x : A) → P x) → (l : List A) → Every P l
   every-of-all f [] = tt
   every-of-all f (x ∷ l) = (f x, every-of-all f l)
@@ -49,10 +45,12 @@ module _ (P : Float → Type 0) where
   unfolding insertAllOf
   every-insertAll [] l e f = f
   every-insertAll (v ∷ vs) l e f =
-      every-insertAll vs (insertOf l v) (e .1) (insert-cases (Every P) l v (λ t r. every-append P l (v ∷ []) f (e .0 t, tt)) f)
+      every-insertAll vs (insertOf l v) (e .1)
+      (insert-cases (Every P) l v (λ t r. every-append P l (v ∷ []) f (e .0 t, tt)) f)
 
 -- ---- a quadratic factor offers at most two numbers
-quadratic-cases : (P : List Float → Type 0) (eps p q : Float) → ((x : Float) → P ((x ⊘ #2) ∷ [])) → ((x y : Float) → P ((x ⊘ #2) ∷ (y ⊘ #2) ∷ [])) → P [] → P (quadraticOf eps p q)
+quadratic-cases : (P : List Float → Type 0) (eps p q : Float) → ((x : Float) → P ((x ⊘ #2) ∷ []))
+    → ((x y : Float) → P ((x ⊘ #2) ∷ (y ⊘ #2) ∷ [])) → P [] → P (quadraticOf eps p q)
 unfolding quadraticOf
 quadratic-cases P eps p q one two none = go (p ⊗ p ⊖ #4 ⊗ q)
   where
@@ -61,25 +59,30 @@ quadratic-cases P eps p q one two none = go (p ⊗ p ⊖ #4 ⊗ q)
     choose false true x y z = two y z
     choose false false x y z = none
 
-    go : (e : Float) → P (cond (lt (absOf e) eps) ((neg p ⊘ #2) ∷ []) (cond (lt #0 e) (((neg p ⊖ sqrtOf e) ⊘ #2) ∷ ((neg p ⊕ sqrtOf e) ⊘ #2) ∷ []) []))
+    go : (e : Float)
+        → P (cond (lt (absOf e) eps) ((neg p ⊘ #2) ∷ [])
+        (cond (lt #0 e) (((neg p ⊖ sqrtOf e) ⊘ #2) ∷ ((neg p ⊕ sqrtOf e) ⊘ #2) ∷ []) []))
     go e = choose (lt (absOf e) eps) (lt #0 e) (neg p) (neg p ⊖ sqrtOf e) (neg p ⊕ sqrtOf e)
 
 quadratic-length : (eps p q : Float) → length (quadraticOf eps p q) ≤ 2
-quadratic-length eps p q = quadratic-cases (λ l. length l ≤ 2) eps p q (λ x. omega arith) (λ x y. omega arith) (omega arith)
+quadratic-length eps p q =
+    quadratic-cases (λ l. length l ≤ 2) eps p q (λ x. omega arith) (λ x y. omega arith) (omega arith)
 
 abbrev pub Fits64 : Float → Type 0
 Fits64 x = T (fits binary64 x)
 
 quadratic-fits : (eps p q : Float) → Every Fits64 (quadraticOf eps p q)
 quadratic-fits eps p q =
-    quadratic-cases (Every Fits64) eps p q (λ x. (div-fits binary64 x #2, tt)) (λ x y. (div-fits binary64 x #2, (div-fits binary64 y #2, tt))) tt
+    quadratic-cases (Every Fits64) eps p q (λ x. (div-fits binary64 x #2, tt))
+    (λ x y. (div-fits binary64 x #2, (div-fits binary64 y #2, tt))) tt
 
 -- ---- what the quartic offers: at most four numbers, so no number finds the set full
 resolved-length : (a b c d : Float) (count : ℕ) (x : Three) → length (resolvedOf a b c d count x) ≤ 4
 unfolding resolvedOf
 resolved-length a b c d count x =
     let f = factorsOf a b c d (chosenOf count x) in
-    sum (quadraticOf #16ε (f .p1) (f .q1)) (quadraticOf #16ε (f .p2) (f .q2)) (quadratic-length #16ε (f .p1) (f .q1)) (quadratic-length #16ε (f .p2) (f .q2))
+    sum (quadraticOf #16ε (f .p1) (f .q1)) (quadraticOf #16ε (f .p2) (f .q2)) (quadratic-length #16ε (f .p1) (f .q1))
+    (quadratic-length #16ε (f .p2) (f .q2))
   where
     sum : (l m : List Float) → length l ≤ 2 → length m ≤ 2 → length (l ++ m) ≤ 4
     sum l m h k = simp length-append (omega arith)
@@ -101,9 +104,11 @@ resolved-fits : (a b c d : Float) (count : ℕ) (x : Three) → Every Fits64 (re
 unfolding resolvedOf
 resolved-fits a b c d count x =
     let f = factorsOf a b c d (chosenOf count x) in
-    every-append Fits64 (quadraticOf #16ε (f .p1) (f .q1)) (quadraticOf #16ε (f .p2) (f .q2)) (quadratic-fits #16ε (f .p1) (f .q1)) (quadratic-fits #16ε (f .p2) (f .q2))
+    every-append Fits64 (quadraticOf #16ε (f .p1) (f .q1)) (quadraticOf #16ε (f .p2) (f .q2))
+    (quadratic-fits #16ε (f .p1) (f .q1)) (quadratic-fits #16ε (f .p2) (f .q2))
 
-offered-fits : (a b c d : Float) (n : Need) (answer : RootAnswer) → AnswerFits answer → Every Fits64 (offeredOf a b c d n answer)
+offered-fits : (a b c d : Float) (n : Need) (answer : RootAnswer) → AnswerFits answer
+    → Every Fits64 (offeredOf a b c d n answer)
 unfolding offeredOf withoutCdOf withCbrtOf
 offered-fits a b c d Nothing answer h = (ofBits-fits binary64 0, quadratic-fits #ε a b)
 offered-fits a b c d Cube (CubeRoot r) h = (ofBits-fits binary64 0, (neg-fits binary64 r h, tt))
@@ -221,12 +226,6 @@ tried-length a b c d answer = rw (sorted-length (rootsOf a b c d answer)) (roots
 pub tried-not-below : (a b c d : Float) (answer : RootAnswer) → Every NotBelow0 (sortedOf (rootsOf a b c d answer))
 tried-not-below a b c d answer = every-sorted NotBelow0 (rootsOf a b c d answer) (roots-not-below a b c d answer)
 
-pub tried-fit : (a b c d : Float) (answer : RootAnswer) → AnswerFits answer → Every Fits64 (sortedOf (rootsOf a b c d answer))
+pub tried-fit : (a b c d : Float) (answer : RootAnswer) → AnswerFits answer
+    → Every Fits64 (sortedOf (rootsOf a b c d answer))
 tried-fit a b c d answer h = every-sorted Fits64 (rootsOf a b c d answer) (roots-fit a b c d answer h)
-
--- ---- the places of a set that holds the numbers of a list
-pub places-length : (l : List Float) → length (placesOf l .«data») ≡ 4
-places-length l = simp (length-take, length-append) (omega arith)
-
-pub place-at : (l : List Float) → length l ≤ 4 → (i : ℕ) (z : Float) → i < length l → getD (placesOf l .«data») i z ≡ getD l i z
-place-at l h i z k = getD-take 4 (l ++ (#0 ∷ #0 ∷ #0 ∷ #0 ∷ [])) i z (omega arith) ∙ List·getD-append l (#0 ∷ #0 ∷ #0 ∷ #0 ∷ []) z i k

@@ -1,4 +1,5 @@
--- Laws of sets of at most four numbers: what a set of a list's places holds, and what the code's tests compute. Assumes nothing.
+-- Assumes nothing. Laws of sets of at most four numbers:
+-- what a set of a list's places holds, and what the code's tests compute.
 use Prim.Native.Nat.{ℕ, suc, _≤_, _<_}
 use mathlib.Core.Path.{_≡_, refl, ap, _∙_}
 use mathlib.Core.Bool.{Bool, true, false, not, cond, _&&_, _||_}
@@ -47,12 +48,17 @@ module _ (s : PositiveSet) (four : length (s .«data») ≡ 4) where
   held2 e = rw e (of-four (λ l. take 2 l ≡ getD l 0 nan ∷ getD l 1 nan ∷ []) (λ a b c d. refl) (s .«data») four)
 
   pub held3 : s .len ≡ 3 → heldOf s ≡ getD (s .«data») 0 nan ∷ getD (s .«data») 1 nan ∷ getD (s .«data») 2 nan ∷ []
-  held3 e = rw e (of-four (λ l. take 3 l ≡ getD l 0 nan ∷ getD l 1 nan ∷ getD l 2 nan ∷ []) (λ a b c d. refl) (s .«data») four)
+  held3 e =
+      rw e
+      (of-four (λ l. take 3 l ≡ getD l 0 nan ∷ getD l 1 nan ∷ getD l 2 nan ∷ []) (λ a b c d. refl) (s .«data») four)
 
-  pub held4 : 4 ≤ s .len → heldOf s ≡ getD (s .«data») 0 nan ∷ getD (s .«data») 1 nan ∷ getD (s .«data») 2 nan ∷ getD (s .«data») 3 nan ∷ []
+  pub held4 : 4 ≤ s .len
+      → heldOf s
+      ≡ getD (s .«data») 0 nan ∷ getD (s .«data») 1 nan ∷ getD (s .«data») 2 nan ∷ getD (s .«data») 3 nan ∷ []
   held4 h =
       take-all (s .len) (s .«data») (omega arith)
-      ∙ of-four (λ l. l ≡ getD l 0 nan ∷ getD l 1 nan ∷ getD l 2 nan ∷ getD l 3 nan ∷ []) (λ a b c d. refl) (s .«data») four
+      ∙ of-four (λ l. l ≡ getD l 0 nan ∷ getD l 1 nan ∷ getD l 2 nan ∷ getD l 3 nan ∷ []) (λ a b c d. refl) (s .«data»)
+      four
 
 -- ---- a set and the list that it holds
 pub held-places : (l : List Float) → length l ≤ 4 → heldOf (placesOf l) ≡ l
@@ -65,7 +71,8 @@ two (a ∷ []) h = absurd (omega arith)
 two (a ∷ b ∷ []) h = refl
 two (a ∷ b ∷ c ∷ l) h = absurd (omega arith)
 
-pub three : (l : List Float) → length l ≡ 3 → getD (placesOf l .«data») 0 nan ∷ getD (placesOf l .«data») 1 nan ∷ getD (placesOf l .«data») 2 nan ∷ [] ≡ l
+pub three : (l : List Float) → length l ≡ 3
+    → getD (placesOf l .«data») 0 nan ∷ getD (placesOf l .«data») 1 nan ∷ getD (placesOf l .«data») 2 nan ∷ [] ≡ l
 three [] h = absurd (omega arith)
 three (a ∷ []) h = absurd (omega arith)
 three (a ∷ b ∷ []) h = absurd (omega arith)
@@ -73,11 +80,13 @@ three (a ∷ b ∷ c ∷ []) h = refl
 three (a ∷ b ∷ c ∷ d ∷ l) h = absurd (omega arith)
 
 -- ---- insertion: v joins, and then it is not below 0 and a place was free; or the set stays
-pub insert-cases : (P : List Float → Type 0) (l : List Float) (v : Float) → (T (le #0 v) → length l < 4 → P (l ++ (v ∷ []))) → P l → P (insertOf l v)
+pub insert-cases : (P : List Float → Type 0) (l : List Float) (v : Float)
+    → (T (le #0 v) → length l < 4 → P (l ++ (v ∷ []))) → P l → P (insertOf l v)
 unfolding insertOf
 insert-cases P l v joins stays = go (le #0 v) (holds l v) (ltb (length l) 4) (λ t. t) (ltb-true (length l) 4)
   where
-    go : (p q r : Bool) → (T p → T (le #0 v)) → (r ≡ true → length l < 4) → P (cond (p && (not q && r)) (l ++ (v ∷ [])) l)
+    go : (p q r : Bool) → (T p → T (le #0 v)) → (r ≡ true → length l < 4)
+        → P (cond (p && (not q && r)) (l ++ (v ∷ [])) l)
     go true true r t u = stays
     go true false true t u = joins (t tt) (u refl)
     go true false false t u = stays
@@ -87,7 +96,8 @@ pub insert-length : (l : List Float) (v : Float) → length l ≤ 4 → length (
 insert-length l v h = insert-cases (λ k. length k ≤ 4) l v (λ t r. simp length-append (omega arith)) h
 
 -- what `insert` promises, of a set whose list is known
-pub inserted : {s r : PositiveSet} (l : List Float) (v : Float) → length l ≤ 4 → s ≡ placesOf l → r ≡ placesOf (insertOf (heldOf s) v) → r ≡ placesOf (insertOf l v)
+pub inserted : {s r : PositiveSet} (l : List Float) (v : Float) → length l ≤ 4 → s ≡ placesOf l
+    → r ≡ placesOf (insertOf (heldOf s) v) → r ≡ placesOf (insertOf l v)
 inserted {s} {r} l v h e f = f ∙ ap (λ k. placesOf (insertOf k v)) (ap heldOf e ∙ held-places l h)
 
 -- a full set stays
@@ -116,7 +126,8 @@ unfolding intoOf
 into-length x [] = refl
 into-length x (y ∷ l) = go (lt y x) (ap suc (into-length x l))
   where
-    go : (b : Bool) → suc (length (intoOf x l)) ≡ suc (suc (length l)) → length (cond b (y ∷ intoOf x l) (x ∷ y ∷ l)) ≡ suc (suc (length l))
+    go : (b : Bool) → suc (length (intoOf x l)) ≡ suc (suc (length l))
+        → length (cond b (y ∷ intoOf x l) (x ∷ y ∷ l)) ≡ suc (suc (length l))
     go true h = h
     go false h = refl
 

@@ -1,4 +1,5 @@
--- `solve_quart_monic_coeffs` of roots.rs, for x⁴ + a x³ + b x² + c x + d: what has to be handed in, and the roots, each operation rounded once, in the Rust's order.
+-- `solve_quart_monic_coeffs` of roots.rs, for x⁴ + a x³ + b x² + c x + d:
+-- what has to be handed in, and the roots, each operation rounded once, in the Rust's order.
 -- Definitions only.
 use Prim.Native.Nat.{ℕ}
 use mathlib.Core.Bool.{Bool, cond, _&&_}
@@ -21,7 +22,8 @@ use Rattle.roots.specs.Set.{insertAllOf}
 abbrev pub smallOf : Float → Bool
 smallOf x = lt (absOf x) #ε
 
--- Nothing where d and c are small; the cube root of c where d is small, c is not, and a and b both are; otherwise the resolvent's roots.
+-- Nothing where d and c are small; the cube root of c where d is small, c is not, and a and b both are;
+-- otherwise the resolvent's roots.
 unfoldable pub needOf : Float → Float → Float → Float → Need
 needOf a b c d = cond (smallOf d) (cond (smallOf c) Nothing (cond (smallOf a && smallOf b) Cube Resolvent)) Resolvent
 
@@ -43,11 +45,12 @@ largerOf y x = cond (lt (absOf y) (absOf x)) x y
 abbrev pub chosenOf : ℕ → Three → Float
 chosenOf count x = cond (eqb count 1) (x .x0) (largerOf (largerOf (x .x0) (x .x1)) (x .x2))
 
--- The two factors x² + p x + q by a root y of the resolvent: q1 and q2 are the roots of q² - y q + d. Where they agree, p1 and p2 are
--- the roots of p² - a p + b - y, else p1 and p2 follow from a = p1 + p2 and c = p1 q2 + p2 q1.
+-- The two factors x² + p x + q by a root y of the resolvent: q1 and q2 are the roots of q² - y q + d. Where they agree,
+-- p1 and p2 are the roots of p² - a p + b - y, else p1 and p2 follow from a = p1 + p2 and c = p1 q2 + p2 q1.
 unfoldable pub factorsOf : Float → Float → Float → Float → Float → Factors
 factorsOf a b c d y =
-    cond (smallOf (y ⊗ y ⊖ #4 ⊗ d)) (equal (a ⊗ a ⊖ #4 ⊗ (b ⊖ y))) (apart ((y ⊕ sqrtOf (y ⊗ y ⊖ #4 ⊗ d)) ⊘ #2) ((y ⊖ sqrtOf (y ⊗ y ⊖ #4 ⊗ d)) ⊘ #2))
+    cond (smallOf (y ⊗ y ⊖ #4 ⊗ d)) (equal (a ⊗ a ⊖ #4 ⊗ (b ⊖ y)))
+    (apart ((y ⊕ sqrtOf (y ⊗ y ⊖ #4 ⊗ d)) ⊘ #2) ((y ⊖ sqrtOf (y ⊗ y ⊖ #4 ⊗ d)) ⊘ #2))
   where
     equal : Float → Factors
     equal e =
@@ -57,7 +60,8 @@ factorsOf a b c d y =
     apart : Float → Float → Factors
     apart q1 q2 = record { p1 = (a ⊗ q1 ⊖ c) ⊘ (q1 ⊖ q2); q1 = q1; p2 = (c ⊖ a ⊗ q2) ⊘ (q1 ⊖ q2); q2 = q2 }
 
--- What x² + p x + q offers: its only root where the discriminant is below eps in size, the smaller and the larger where it is above 0, else none.
+-- What x² + p x + q offers: its only root where the discriminant is below eps in size,
+-- the smaller and the larger where it is above 0, else none.
 unfoldable pub quadraticOf : Float → Float → Float → List Float
 quadraticOf eps p q = by (p ⊗ p ⊖ #4 ⊗ q)
   where

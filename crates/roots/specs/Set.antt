@@ -1,4 +1,5 @@
--- `PositiveSet` of roots.rs with four places: what a set holds, how a number joins it, and the order in which its numbers are tried.
+-- `PositiveSet` of roots.rs with four places: what a set holds, how a number joins it,
+-- and the order in which its numbers are tried.
 -- Definitions only. In definitions a set is the list of the numbers that it holds, in the order in which they joined.
 use mathlib.Core.Bool.{Bool, false, not, cond, _&&_, _||_}
 use mathlib.Core.List.{List, [], _∷_, _++_}

@@ -9,7 +9,8 @@ ghost use Prim.Native.Nat.{_≤_};
 ghost use lib.ListN.{length};
 ghost use lib.Ieee.{Float};
 ghost use Rattle.roots.specs.Set.{heldOf, placesOf, insertOf, insertAllOf, intoOf, sortedOf};
-ghost use Rattle.roots.specs.Quartic.{smallOf, needOf, needNumber, resolventOf, chosenOf, largerOf, factorsOf, quadraticOf, withoutCdOf, withCbrtOf, resolvedOf, rootsOf, polynomRootsOf};
+ghost use Rattle.roots.specs.Quartic.{smallOf, needOf, needNumber, resolventOf, chosenOf, largerOf, factorsOf};
+ghost use Rattle.roots.specs.Quartic.{quadraticOf, withoutCdOf, withCbrtOf, resolvedOf, rootsOf, polynomRootsOf};
 
 // `f64::EPSILON`, and the Rust's sixteenfold of it.
 const EPSILON: f64 = 2.220446049250313e-16;
@@ -107,7 +108,8 @@ impl PositiveSet {
     }
 
     // A value joins if it is not negative and equals none that is held: -0 joins, and equals 0.
-    // A full set stays as it is, where the Rust would panic; the quartic offers four values at most. A length above 4 counts as 4.
+    // A full set stays as it is, where the Rust would panic; the quartic offers four values at most.
+    // A length above 4 counts as 4.
     pub fn insert(self, value: f64) -> Self
         ensures { λ r. ⌜ r ≡ placesOf (insertOf (heldOf self) value) ⌝ }
     {
@@ -344,7 +346,8 @@ fn factor(a: f64, b: f64, c: f64, d: f64, y: f64) -> Factors
 
 // The roots of x^2 + p x + q go into the set; a discriminant below eps in size counts as 0.
 fn insert_quadratic(roots: PositiveSet, p: f64, q: f64, eps: f64) -> PositiveSet
-    ensures { λ r. ⌜ ((l : List Float) → length l ≤ 4 → roots ≡ placesOf l → r ≡ placesOf (insertAllOf l (quadraticOf eps p q))) ⌝ }
+    ensures { λ r. ⌜ ((l : List Float) → length l ≤ 4 → roots ≡ placesOf l
+        → r ≡ placesOf (insertAllOf l (quadraticOf eps p q))) ⌝ }
 {
     let d_ = p * p - 4.0 * q;
     if abs(d_) < eps {
@@ -405,7 +408,8 @@ fn solve_quart_monic_coeffs(a: f64, b: f64, c: f64, d: f64, answer: RootAnswer) 
     }
 }
 
-// The roots that are not negative, in the order in which they were found. An answer that does not suit the need gives none.
+// The roots that are not negative, in the order in which they were found.
+// An answer that does not suit the need gives none.
 pub fn solve_quart_monic_arr(polynom: [f64; 4], answer: RootAnswer) -> PositiveSet
     ensures { λ r. ⌜ r ≡ placesOf (polynomRootsOf polynom answer) ⌝ }
 {

@@ -1,5 +1,6 @@
 // The quartic on a stored list. A line has the answer that is handed in, its count and its three values, and a b c d;
-// the reply is the need, the resolvent's three arguments, and how many roots there are, with the roots in order of trial.
+// the reply is the need, the resolvent's three arguments, and how many roots there are,
+// with the roots in order of trial.
 // The list is made by oracle/lists.sh, seed 1, with what the Rust's `solve_quart_monic_arr` answers.
 use digits::byte_to_digits;
 use digits::from_digits;

@@ -1,7 +1,8 @@
 -- What the tests of `sqrt` say of its argument: above zero, and below it or a zero. Assumes nothing.
 use mathlib.Core.Path.{_≡_, refl, sym, ap, _∙_, subst}
 use Prim.Native.Nat.{ℕ, zero, suc, _+_, _*_, _%_, _^_, _≤_, _<_}
-use native.Mathlib.Nat.{le-trans, le-of-eq, zero-lt-suc, zero-mul, le-of-lt, mul-pos, mul-le-mul-right, one-mul, lt-irrefl, not-le-of-lt, le-div-iff-mul-le, mod-eq-of-lt}
+use native.Mathlib.Nat.{le-trans, le-of-eq, zero-lt-suc, zero-mul, le-of-lt, mul-pos, mul-le-mul-right, one-mul}
+use native.Mathlib.Nat.{lt-irrefl, not-le-of-lt, le-div-iff-mul-le, mod-eq-of-lt}
 use native.Mathlib.Omega.{arith}
 use mathlib.Core.Bool.{Bool, true, false, not, _&&_, _||_, Bool·beq, true≢false, false≢true}
 use lib.IntN.{ℤ}
@@ -29,7 +30,9 @@ units-pos m e t =
     let c : Bool = ltb (suc m * up e) (2 ^ 1024 * down e) in
     let h : down e ≤ 2 ^ 1074 = leb→le (down e) (2 ^ 1074) (and-r a b (and-l (a && b) c t)) in
     le-div-iff-mul-le (down-pos e) .1
-    (le-trans (le-of-eq (one-mul (down e))) (le-trans h (le-trans (le-of-eq (sym (one-mul (2 ^ 1074)))) (mul-le-mul-right (2 ^ 1074) (mul-pos (zero-lt-suc m) (up-pos e))))))
+    (le-trans (le-of-eq (one-mul (down e)))
+    (le-trans h (le-trans (le-of-eq (sym (one-mul (2 ^ 1074))))
+    (mul-le-mul-right (2 ^ 1074) (mul-pos (zero-lt-suc m) (up-pos e))))))
 
 above-zero : (e : ℤ) → lt (ofBits binary64 0) (fin false zero e) ≡ true → ⊥
 unfolding lt ofBits
@@ -45,10 +48,12 @@ infinity-bits = refl
 below-infinity : (q k : ℕ) → q < 2 ^ 53 → k ≤ 2045 → k * 2 ^ 52 + q < 0x7ff0_0000_0000_0000
 below-infinity q k h l = omega arith
 
-finite-bits : (m : ℕ) (e : ℤ) → T (fits binary64 (fin false m e)) → toBits binary64 (fin false m e) < 0x7ff0_0000_0000_0000
+finite-bits : (m : ℕ) (e : ℤ) → T (fits binary64 (fin false m e))
+    → toBits binary64 (fin false m e) < 0x7ff0_0000_0000_0000
 finite-bits m e t =
     let p = toBits-parts m e t in
-    subst (λ (b : ℕ). b < 0x7ff0_0000_0000_0000) (sym (p .3 .sum)) (below-infinity (p .0) (p .1) (p .2 .few) (p .2 .low))
+    subst (λ (b : ℕ). b < 0x7ff0_0000_0000_0000) (sym (p .3 .sum))
+    (below-infinity (p .0) (p .1) (p .2 .few) (p .2 .low))
 
 pub bits-pos : (x : Float) → T (fits binary64 x) → lt (ofBits binary64 0) x ≡ true → 0 < toBits binary64 x
 unfolding lt ofBits
@@ -59,7 +64,8 @@ bits-pos (fin true m e) f t = absurd (false≢true t)
 bits-pos (fin false zero e) f t = absurd (above-zero e t)
 bits-pos (fin false (suc m) e) f t =
     let p = toBits-parts (suc m) e f in
-    subst (λ (b : ℕ). 0 < b) (sym (p .3 .sum)) (added (p .0) (p .1) (subst (λ (n : ℕ). 0 < n) (sym (p .2 .exact)) (units-pos m e f)))
+    subst (λ (b : ℕ). 0 < b) (sym (p .3 .sum))
+    (added (p .0) (p .1) (subst (λ (n : ℕ). 0 < n) (sym (p .2 .exact)) (units-pos m e f)))
   where
     added : (q k : ℕ) → 0 < q * 2 ^ k → 0 < k * 2 ^ 52 + q
     added zero k h = absurd (lt-irrefl 0 (subst (λ (x : ℕ). 0 < x) (zero-mul (2 ^ k)) h))
@@ -73,12 +79,14 @@ infinite = refl
 pub not-zero-test : (m : ℕ) → T (not (eqb (suc m) 0))
 not-zero-test m = not-T (eqb (suc m) 0) (λ t. let h : suc m ≡ 0 = eqb→eq (suc m) 0 t in omega arith)
 
-pub sqrt-positive : (m : ℕ) (e : ℤ) → sqrtOf (fin false (suc m) e) ≡ nearestRoot (unitsOf (fin false (suc m) e) * 2 ^ 1074)
+pub sqrt-positive : (m : ℕ) (e : ℤ)
+    → sqrtOf (fin false (suc m) e) ≡ nearestRoot (unitsOf (fin false (suc m) e) * 2 ^ 1074)
 unfolding sqrtOf radicand
 sqrt-positive m e = cond-no (eqb (suc m) 0) _ _ (not-zero-test m)
 
 -- from infinity's bits on it is infinity
-pub sqrt-infinite : (x : Float) → T (fits binary64 x) → lt (ofBits binary64 0) x ≡ true → 0x7ff0_0000_0000_0000 ≤ toBits binary64 x → x ≡ sqrtOf x
+pub sqrt-infinite : (x : Float) → T (fits binary64 x) → lt (ofBits binary64 0) x ≡ true
+    → 0x7ff0_0000_0000_0000 ≤ toBits binary64 x → x ≡ sqrtOf x
 unfolding lt ofBits
 sqrt-infinite nan f t h = absurd (false≢true t)
 sqrt-infinite (inf true) f t h = absurd (false≢true t)
@@ -86,11 +94,13 @@ sqrt-infinite (inf false) f t h = infinite
 sqrt-infinite (fin true m e) f t h = absurd (false≢true t)
 sqrt-infinite (fin false m e) f t h = absurd (not-le-of-lt (finite-bits m e f) h)
 
-pub sqrt-finite : (x : Float) (r : ℕ) → T (fits binary64 x) → lt (ofBits binary64 0) x ≡ true → toBits binary64 x < 0x7ff0_0000_0000_0000 → RootBits (toBits binary64 x) r → ofBits binary64 r ≡ sqrtOf x
+pub sqrt-finite : (x : Float) (r : ℕ) → T (fits binary64 x) → lt (ofBits binary64 0) x ≡ true
+    → toBits binary64 x < 0x7ff0_0000_0000_0000 → RootBits (toBits binary64 x) r → ofBits binary64 r ≡ sqrtOf x
 unfolding lt ofBits
 sqrt-finite nan r f t h H = absurd (false≢true t)
 sqrt-finite (inf true) r f t h H = absurd (false≢true t)
-sqrt-finite (inf false) r f t h H = absurd (lt-irrefl 0x7ff0_0000_0000_0000 (subst (λ (b : ℕ). b < 0x7ff0_0000_0000_0000) infinity-bits h))
+sqrt-finite (inf false) r f t h H =
+    absurd (lt-irrefl 0x7ff0_0000_0000_0000 (subst (λ (b : ℕ). b < 0x7ff0_0000_0000_0000) infinity-bits h))
 sqrt-finite (fin true m e) r f t h H = absurd (false≢true t)
 sqrt-finite (fin false zero e) r f t h H = absurd (above-zero e t)
 sqrt-finite (fin false (suc m) e) r f t h H =
@@ -99,7 +109,10 @@ sqrt-finite (fin false (suc m) e) r f t h H =
 
 pub no-nan-bits : (r : ℕ) → r < 0x7ff0_0000_0000_0000 → T (not (nanBits binary64 r))
 no-nan-bits r h =
-    subst (λ (b : Bool). T (not b)) (sym (nanBits-above binary64 r ∙ le-ltb 0x7ff0_0000_0000_0000 (r % 2 ^ 63) (le-trans (le-of-eq (mod-eq-of-lt (wide r h))) (le-of-lt h)))) tt
+    subst (λ (b : Bool). T (not b))
+    (sym (nanBits-above binary64 r
+    ∙ le-ltb 0x7ff0_0000_0000_0000 (r % 2 ^ 63) (le-trans (le-of-eq (mod-eq-of-lt (wide r h))) (le-of-lt h))))
+    tt
   where
     wide : (r : ℕ) → r < 0x7ff0_0000_0000_0000 → r < 2 ^ 63
     wide r g = omega arith
@@ -128,13 +141,17 @@ sqrt-zero (inf s) t = absurd (false≢true t)
 sqrt-zero (fin s zero e) t = refl
 sqrt-zero (fin s (suc m) e) t =
     let a : Bool = eqb (suc m * up e * 1) (0 * down e) in
-    absurd (not-zero m e (le-of-eq (eqb→eq (suc m * up e * 1) (0 * down e) (and-l a (Bool·beq s false || eqb (suc m * up e * 1) 0) (subst T (sym t) tt)))))
+    absurd (not-zero m e
+    (le-of-eq (eqb→eq (suc m * up e * 1) (0 * down e)
+    (and-l a (Bool·beq s false || eqb (suc m * up e * 1) 0) (subst T (sym t) tt)))))
 
-pub sqrt-none : (x : Float) → lt (ofBits binary64 0) x ≡ false → eq x (ofBits binary64 0) ≡ false → div binary64 (ofBits binary64 0) (ofBits binary64 0) ≡ sqrtOf x
+pub sqrt-none : (x : Float) → lt (ofBits binary64 0) x ≡ false → eq x (ofBits binary64 0) ≡ false
+    → div binary64 (ofBits binary64 0) (ofBits binary64 0) ≡ sqrtOf x
 unfolding lt eq div ofBits sqrtOf
 sqrt-none nan t u = refl
 sqrt-none (inf true) t u = refl
 sqrt-none (inf false) t u = absurd (true≢false t)
-sqrt-none (fin s zero e) t u = absurd (true≢false (sym (zero-level s (0 * up e * 1) (0 * down e) (omega arith) (omega arith)) ∙ u))
+sqrt-none (fin s zero e) t u =
+    absurd (true≢false (sym (zero-level s (0 * up e * 1) (0 * down e) (omega arith) (omega arith)) ∙ u))
 sqrt-none (fin true (suc m) e) t u = sym (cond-no (eqb (suc m) 0) _ _ (not-zero-test m))
 sqrt-none (fin false (suc m) e) t u = absurd (not-zero m e (ltb-false (0 * down e) (suc m * up e * 1) t))

@@ -1,6 +1,6 @@
--- What a caller asks of a square root: what it is by what its argument is (`sqrtOf-kind`), that the format holds it (`sqrtOf-fits`), and what a finite root says of its argument (`sqrtOf-finite`). Assumes nothing.
+-- What a caller asks of a square root: what it is by what its argument is (`sqrtOf-kind`), and that the format holds it
+-- (`sqrtOf-fits`). Assumes nothing.
 use mathlib.Core.Path.{_≡_, refl, sym, ap, _∙_, subst}
-use mathlib.Core.Logic.{_⊎_, inl, inr}
 use Prim.Native.Nat.{ℕ, zero, suc, _*_, _^_}
 use native.Mathlib.Nat.{zero-lt-suc, mul-one, one-mul, pow-succ'}
 use native.Mathlib.Omega.{arith}
@@ -10,7 +10,6 @@ use lib.Dec.{T, ltb, eqb, lt→ltb, eqb→eq}
 use lib.Ieee.{Float, nan, inf, fin, binary64, up, down, fits}
 use lib.Ieee.Fits.{nan-fits, inf-fits}
 use lib.Ieee.Bits.{cond-no}
-use lib.Ieee.Scale.{finite}
 use lib.Ieee.Positive.{positive}
 use Rattle.sqrt.specs.Sqrt.{sqrtOf}
 use Rattle.sqrt.proofs.Cases.{not-zero-test}
@@ -40,7 +39,9 @@ sqrtOf-kind (inf true) f = none refl
 sqrtOf-kind (inf false) f = infinite refl refl
 sqrtOf-kind (fin s zero e) f = zeros s (ap (fin s 0) (one-exponent e (eqb→eq (up e * down e) 1 f))) refl
 sqrtOf-kind (fin true (suc m) e) f = none (cond-no (eqb (suc m) 0) _ _ (not-zero-test m))
-sqrtOf-kind (fin false (suc m) e) f = let p : T (ltb 0 (suc m)) = lt→ltb 0 (suc m) (zero-lt-suc m) in above p (sqrt-nearest (fin false (suc m) e) f p .above-zero)
+sqrtOf-kind (fin false (suc m) e) f =
+    let p : T (ltb 0 (suc m)) = lt→ltb 0 (suc m) (zero-lt-suc m) in
+    above p (sqrt-nearest (fin false (suc m) e) f p .above-zero)
 
 pub sqrtOf-fits : (x : Float) → T (fits binary64 x) → T (fits binary64 (sqrtOf x))
 sqrtOf-fits x f = go (sqrtOf-kind x f)
@@ -50,13 +51,3 @@ sqrtOf-fits x f = go (sqrtOf-kind x f)
     go (zeros s z r) = subst (λ (v : Float). T (fits binary64 v)) (sym r) f
     go (above p r) = sqrt-nearest x f p .held
     go (infinite i r) = subst (λ (v : Float). T (fits binary64 v)) (sym r) (inf-fits binary64 false)
-
--- a finite root is that of a zero or of a finite number above zero
-pub sqrtOf-finite : (x : Float) → T (fits binary64 x) → T (finite (sqrtOf x)) → ((s : Bool) × (x ≡ fin s 0 (pos 0))) ⊎ T (positive x)
-sqrtOf-finite x f t = go (sqrtOf-kind x f)
-  where
-    go : Kind x → ((s : Bool) × (x ≡ fin s 0 (pos 0))) ⊎ T (positive x)
-    go (none r) = absurd (subst (λ (v : Float). T (finite v)) r t)
-    go (zeros s z r) = inl (s, z)
-    go (above p r) = inr p
-    go (infinite i r) = absurd (subst (λ (v : Float). T (finite v)) r t)

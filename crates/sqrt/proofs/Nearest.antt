@@ -1,12 +1,17 @@
 -- No f64 is as near to the exact square root as the one that `sqrtOf` gives (`sqrt-nearest`). Assumes nothing.
 --
--- In units of 2 ^ -1074 let R be the result, Y any other f64 that is not negative, and w the number whose root is meant: √w is the exact root (`radicand`).
--- R is nearer to √w than a Y below it exactly where √w is above the middle of the two, (R + Y) / 2, which is where (R + Y)² < 4 * w.
--- R is nearer than a Y above it exactly where √w is below that middle: 4 * w < (R + Y)². Neither is ever an equation, so there is no tie to decide.
--- A negative f64 is farther from √w than its magnitude, and `unitsOf` is the magnitude, so nothing is asked of y's sign.
+-- In units of 2 ^ -1074 let R be the result, Y any other f64 that is not negative,
+-- and w the number whose root is meant: √w is the exact root (`radicand`).
+-- R is nearer to √w than a Y below it exactly where √w is above the middle of the two, (R + Y) / 2,
+-- which is where (R + Y)² < 4 * w.
+-- R is nearer than a Y above it exactly where √w is below that middle: 4 * w < (R + Y)².
+-- Neither is ever an equation, so there is no tie to decide.
+-- A negative f64 is farther from √w than its magnitude, and `unitsOf` is the magnitude,
+-- so nothing is asked of y's sign.
 use mathlib.Core.Path.{_≡_, sym, ap, _∙_, subst}
 use Prim.Native.Nat.{ℕ, zero, suc, _+_, _-_, _*_, _/_, _^_, _≤_, _<_}
-use native.Mathlib.Nat.{le-trans, le-of-eq, lt-of-lt-of-le, lt-of-le-of-lt, lt-of-not-le, not-le-of-lt, one-mul, mul-pos, mul-le-mul-right, mul-lt-mul-of-pos-right, mul-div-cancel}
+use native.Mathlib.Nat.{le-trans, le-of-eq, lt-of-lt-of-le, lt-of-le-of-lt, lt-of-not-le, not-le-of-lt, one-mul}
+use native.Mathlib.Nat.{mul-pos, mul-le-mul-right, mul-lt-mul-of-pos-right, mul-div-cancel}
 use native.Mathlib.Omega.{arith}
 use mathlib.Core.Bool.{true, false}
 use lib.Dec.{T}
@@ -29,20 +34,25 @@ use Rattle.sqrt.proofs.Cases.{units-pos, sqrt-positive}
 pub record NearestTo (w : ℕ) (r : Float) : Type 0 where
   pub held : T (fits binary64 r)
   pub above-zero : T (positive r)
-  pub below : (y : Float) → T (fits binary64 y) → T (finite y) → unitsOf y < unitsOf r → (unitsOf r + unitsOf y) * (unitsOf r + unitsOf y) < 4 * w
-  pub above : (y : Float) → T (fits binary64 y) → T (finite y) → unitsOf r < unitsOf y → 4 * w < (unitsOf r + unitsOf y) * (unitsOf r + unitsOf y)
+  pub below : (y : Float) → T (fits binary64 y) → T (finite y) → unitsOf y < unitsOf r
+      → (unitsOf r + unitsOf y) * (unitsOf r + unitsOf y) < 4 * w
+  pub above : (y : Float) → T (fits binary64 y) → T (finite y) → unitsOf r < unitsOf y
+      → 4 * w < (unitsOf r + unitsOf y) * (unitsOf r + unitsOf y)
 
 -- ---- how large the root of n * 2 ^ 1074 is, for an f64 of n units
 root-large : (n : ℕ) → 0 < n → 2 ^ 53 ≤ root (n * 2 ^ 1074)
 root-large n h =
     root-largest (2 ^ 53) (n * 2 ^ 1074)
-    (le-trans (pow-mono {i = 106} {j = 1074} (omega arith)) (le-trans (le-of-eq (sym (one-mul (2 ^ 1074)))) (mul-le-mul-right (2 ^ 1074) h)))
+    (le-trans (pow-mono {i = 106} {j = 1074} (omega arith))
+    (le-trans (le-of-eq (sym (one-mul (2 ^ 1074)))) (mul-le-mul-right (2 ^ 1074) h)))
 
 root-small : (n : ℕ) → n < 2 ^ 2098 → root (n * 2 ^ 1074) < 2 ^ 1586
-root-small n h = between-squares (root (n * 2 ^ 1074)) (n * 2 ^ 1074) (2 ^ 1586) (root-under (n * 2 ^ 1074)) (mul-lt-mul-of-pos-right h (pow-pos 1074))
+root-small n h = between-squares (root (n * 2 ^ 1074)) (n * 2 ^ 1074) (2 ^ 1586) (root-under (n * 2 ^ 1074))
+    (mul-lt-mul-of-pos-right h (pow-pos 1074))
 
 dropped-pos : (r : ℕ) → 2 ^ 53 ≤ r → 0 < size r - 53
-dropped-pos r h = at (size r) (lt-of-not-le (λ (g : size r ≤ 53). not-le-of-lt (lt-of-lt-of-le (size-lt r) (pow-mono g)) h))
+dropped-pos r h =
+    at (size r) (lt-of-not-le (λ (g : size r ≤ 53). not-le-of-lt (lt-of-lt-of-le (size-lt r) (pow-mono g)) h))
   where
     at : (z : ℕ) → 53 < z → 0 < z - 53
     at z l = omega arith
@@ -71,15 +81,23 @@ root-nearest n N h =
     let Q-high : Q ≤ 2 ^ 53 = le-trans (rounded-le w q k) (B .few) in
     let Q-pos : 0 < Q = lt-of-lt-of-le (lt-of-lt-of-le (pow-pos 52) q-low) (rounded-ge w q k) in
     let small : Q * 2 ^ k < 2 ^ 2098 =
-    lt-of-le-of-lt (mul-le-mul-right (2 ^ k) Q-high) (lt-of-le-of-lt (le-of-eq (sym (pow-add 2 53 k))) (pow-lt (room k (dropped-few (root w) (root-small n (N .small)))))) in
+    lt-of-le-of-lt (mul-le-mul-right (2 ^ k) Q-high)
+    (lt-of-le-of-lt (le-of-eq (sym (pow-add 2 53 k)))
+    (pow-lt (room k (dropped-few (root w) (root-small n (N .small)))))) in
     let S : Sides w q k = sides w q k (no-tie n q k N q-low) in
     let value = units-val binary64 false Q k small in
-    let R-is : unitsOf (units binary64 false Q k) ≡ Q * 2 ^ k = value-units (units binary64 false Q k) (Q * 2 ^ k) value in
+    let R-is : unitsOf (units binary64 false Q k) ≡ Q * 2 ^ k =
+    value-units (units binary64 false Q k) (Q * 2 ^ k) value in
     subst (NearestTo w) (sym (nearestRoot-is w)) (record {
       held = units-fits Q k Q-high small;
-      above-zero = positive-of-value (units binary64 false Q k) (Q * 2 ^ k) (2 ^ 1074) value (mul-pos Q-pos (pow-pos k));
-      below = λ y f t. subst (λ (r : ℕ). unitsOf y < r → (r + unitsOf y) * (r + unitsOf y) < 4 * w) (sym R-is) (far-below w q k (unitsOf y) B (units-of y f) S);
-      above = λ y f t. subst (λ (r : ℕ). r < unitsOf y → 4 * w < (r + unitsOf y) * (r + unitsOf y)) (sym R-is) (far-above w q k (unitsOf y) B (units-of y f) S);
+      above-zero =
+          positive-of-value (units binary64 false Q k) (Q * 2 ^ k) (2 ^ 1074) value (mul-pos Q-pos (pow-pos k));
+      below =
+          λ y f t. subst (λ (r : ℕ). unitsOf y < r → (r + unitsOf y) * (r + unitsOf y) < 4 * w) (sym R-is)
+          (far-below w q k (unitsOf y) B (units-of y f) S);
+      above =
+          λ y f t. subst (λ (r : ℕ). r < unitsOf y → 4 * w < (r + unitsOf y) * (r + unitsOf y)) (sym R-is)
+          (far-above w q k (unitsOf y) B (units-of y f) S);
     })
   where
     room : (k : ℕ) → k ≤ 1533 → 53 + k < 2098
@@ -93,4 +111,5 @@ sqrt-nearest (fin true m e) f p = absurd p
 sqrt-nearest (fin false zero e) f p = absurd p
 sqrt-nearest (fin false (suc m) e) f p =
     let x = fin false (suc m) e in
-    subst (NearestTo (unitsOf x * 2 ^ 1074)) (sym (sqrt-positive m e)) (root-nearest (unitsOf x) (units-of x f) (units-pos m e f))
+    subst (NearestTo (unitsOf x * 2 ^ 1074)) (sym (sqrt-positive m e))
+    (root-nearest (unitsOf x) (units-of x f) (units-pos m e f))

@@ -1,4 +1,5 @@
--- Newton's method for a whole square root: a step from any guess above 0 is no less than the root's whole part, and less than a guess that is too large. Assumes nothing.
+-- Assumes nothing. Newton's method for a whole square root:
+-- a step from any guess above 0 is no less than the root's whole part, and less than a guess that is too large.
 use mathlib.Core.Path.{_≡_}
 use Prim.Native.Nat.{ℕ, suc, _+_, _-_, _*_, _/_, _^_, _≤_, _<_}
 use native.Mathlib.Nat.{lt-suc-self, div-lt-iff-lt-mul}
@@ -51,7 +52,8 @@ quotient-lt a h A H = div-lt-iff-lt-mul (positive h H) .1 (below (A .high) (H .l
     below k l = omega arith
 
 -- c is the quotient of a by h, and v half of their sum
-follows-at : (a h c v : ℕ) → Radicand a → Guess h → a < suc c * h → c < 2 ^ 29 → (a < h * h → c < h) → 2 * v ≤ h + c → h + c < 2 * suc v → Follows a h v
+follows-at : (a h c v : ℕ) → Radicand a → Guess h → a < suc c * h → c < 2 ^ 29 → (a < h * h → c < h) → 2 * v ≤ h + c
+    → h + c < 2 * suc v → Follows a h v
 follows-at a h c v A H over small less k l = record {
   guess = record { low = reaches (between-squares (2 ^ 26) a (suc v) (A .low) above); high = high (H .high) };
   above = above;
@@ -70,7 +72,8 @@ follows-at a h c v A H over small less k l = record {
 pub follows : (a h : ℕ) → Radicand a → Guess h → Follows a h ((h + a / h) / 2)
 follows a h A H =
     let H₀ = positive h H in
-    follows-at a h (a / h) ((h + a / h) / 2) A H (div-lt-iff-lt-mul H₀ .0 (lt-suc-self (a / h))) (quotient-lt a h A H) (λ g. div-lt-iff-lt-mul H₀ .1 g) (half (h + a / h)) (next (h + a / h))
+    follows-at a h (a / h) ((h + a / h) / 2) A H (div-lt-iff-lt-mul H₀ .0 (lt-suc-self (a / h))) (quotient-lt a h A H)
+    (λ g. div-lt-iff-lt-mul H₀ .1 g) (half (h + a / h)) (next (h + a / h))
   where
     half : (z : ℕ) → 2 * (z / 2) ≤ z
     half z = omega arith

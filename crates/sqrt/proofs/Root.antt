@@ -20,14 +20,16 @@ digit-over n c h = omega arith
 digit : (n c : ℕ) → IsRoot (n / 4) c → IsRoot n (cond (leb (suc (2 * c) * suc (2 * c)) n) (suc (2 * c)) (2 * c))
 digit n c h = go (leb (suc (2 * c) * suc (2 * c)) n) (leb→le _ n) (nleb→lt _ n)
   where
-    go : (b : Bool) → (T b → suc (2 * c) * suc (2 * c) ≤ n) → (T (not b) → n < suc (2 * c) * suc (2 * c)) → IsRoot n (cond b (suc (2 * c)) (2 * c))
+    go : (b : Bool) → (T b → suc (2 * c) * suc (2 * c) ≤ n) → (T (not b) → n < suc (2 * c) * suc (2 * c))
+        → IsRoot n (cond b (suc (2 * c)) (2 * c))
     go true l g = record { under = l tt; over = digit-over n c (h .over) }
     go false l g = record { under = digit-under n c (h .under); over = g tt }
 
 rootIn-is : (d n : ℕ) → n < 4 ^ d → IsRoot n (rootIn d n)
 unfolding rootIn
 rootIn-is zero n h = record { under = omega arith; over = h }
-rootIn-is (suc d) n h = digit n (rootIn d (n / 4)) (rootIn-is d (n / 4) (div-lt-iff-lt-mul (zero-lt-suc 3) .1 (subst (λ (x : ℕ). n < x) (pow-suc 4 d) h)))
+rootIn-is (suc d) n h = digit n (rootIn d (n / 4))
+    (rootIn-is d (n / 4) (div-lt-iff-lt-mul (zero-lt-suc 3) .1 (subst (λ (x : ℕ). n < x) (pow-suc 4 d) h)))
 
 -- 2 ^ d ≤ 4 ^ d
 two-four : (d : ℕ) → 2 ^ d ≤ 4 ^ d

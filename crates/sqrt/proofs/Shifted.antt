@@ -1,8 +1,10 @@
--- From the bits of a finite number above zero to the bits of its root. The number is m * 2 ^ k units. Its leading zeros shift m up to 53 digits, and one place more where the power of two
--- that is left is odd; the root of what that gives, times 2 ^ 54, has 54 digits, and `proofs/Rounded.antt` rounds it. Assumes nothing.
+-- From the bits of a finite number above zero to the bits of its root. The number is m * 2 ^ k units. Its leading zeros
+-- shift m up to 53 digits, and one place more where the power of two that is left is odd;
+-- the root of what that gives, times 2 ^ 54, has 54 digits, and `proofs/Rounded.antt` rounds it. Assumes nothing.
 use mathlib.Core.Path.{_≡_, refl, sym, ap, _∙_, subst}
 use Prim.Native.Nat.{ℕ, zero, suc, _+_, _-_, _*_, _/_, _%_, _^_, _≤_, _<_, suc-le-suc}
-use native.Mathlib.Nat.{le-trans, le-of-eq, le-of-lt, lt-of-lt-of-le, lt-of-not-le, not-le-of-lt, le-of-suc-le-suc, mul-assoc, mul-le-mul-right, mul-one, mod-eq-of-lt}
+use native.Mathlib.Nat.{le-trans, le-of-eq, le-of-lt, lt-of-lt-of-le, lt-of-not-le, not-le-of-lt, le-of-suc-le-suc}
+use native.Mathlib.Nat.{mul-assoc, mul-le-mul-right, mul-one, mod-eq-of-lt}
 use native.Mathlib.Omega.{arith}
 use mathlib.Core.Bool.{false}
 use lib.Pow.{pow-add, pow-mono, shl-lt, shl-exact}
@@ -52,12 +54,15 @@ shifts-at m z j e lo hi l =
     record {
       many = omega arith;
       few = omega arith;
-      low = subst (λ (x : ℕ). 2 ^ x ≤ m * 2 ^ (z - 11)) s-is (le-trans (le-of-eq (pow-add 2 j (z - 11))) (mul-le-mul-right (2 ^ (z - 11)) lo));
+      low = subst (λ (x : ℕ). 2 ^ x ≤ m * 2 ^ (z - 11)) s-is
+          (le-trans (le-of-eq (pow-add 2 j (z - 11))) (mul-le-mul-right (2 ^ (z - 11)) lo));
       high = subst (λ (x : ℕ). m * 2 ^ (z - 11) < 2 ^ x) s-is' (shl-lt (suc j) (z - 11) hi);
     }
 
 shifts : (m : ℕ) → 0 < m → m < 2 ^ 53 → Shifts m (leadingZeros 64 m)
-shifts m p h = let t = leading-top 64 m p (lt-of-lt-of-le h (pow-mono {i = 53} {j = 64} (omega arith))) in shifts-at m (leadingZeros 64 m) (t .0) (t .1) (t .2) (t .3) h
+shifts m p h =
+    let t = leading-top 64 m p (lt-of-lt-of-le h (pow-mono {i = 53} {j = 64} (omega arith))) in
+    shifts-at m (leadingZeros 64 m) (t .0) (t .1) (t .2) (t .3) h
 
 pub many-zeros : (m : ℕ) → 0 < m → m < 2 ^ 53 → 11 ≤ leadingZeros 64 m
 many-zeros m p h = shifts m p h .many
@@ -78,7 +83,8 @@ two-values z = omega arith
 shifted-is : (m e : ℕ) → 0 < m → m < 2 ^ 53 → shifted m e ≡ m * 2 ^ shift m * 2 ^ (e % 2)
 shifted-is m e p h =
     let d = e % 2 in
-    ap (λ (x : ℕ). x * 2 ^ d % 2 ^ 64) (mod-eq-of-lt (lt-of-lt-of-le (shifts m p h .high) (pow-mono {i = 53} {j = 64} (omega arith))))
+    ap (λ (x : ℕ). x * 2 ^ d % 2 ^ 64)
+    (mod-eq-of-lt (lt-of-lt-of-le (shifts m p h .high) (pow-mono {i = 53} {j = 64} (omega arith))))
     ∙ shl-exact 53 d 64 (shifts m p h .high) (room d (two-values e))
   where
     room : (d : ℕ) → d ≤ 1 → 53 + d ≤ 64
@@ -90,22 +96,31 @@ doubled q (suc zero) l lo hi = record { low = omega arith; high = omega arith }
 doubled q (suc (suc d)) l lo hi = absurd (omega arith)
 
 pub shifted-radicand : (m e : ℕ) → 0 < m → m < 2 ^ 53 → Radicand (shifted m e)
-shifted-radicand m e p h = subst Radicand (sym (shifted-is m e p h)) (doubled (m * 2 ^ shift m) (e % 2) (two-values e) (shifts m p h .low) (shifts m p h .high))
+shifted-radicand m e p h = subst Radicand (sym (shifted-is m e p h))
+    (doubled (m * 2 ^ shift m) (e % 2) (two-values e) (shifts m p h .low) (shifts m p h .high))
 
 -- ---- the 54 digits of its root
 pub digits-low : (a r : ℕ) → Radicand a → IsRoot (a * 2 ^ 54) r → 2 ^ 53 ≤ r
-digits-low a r A H = le-of-suc-le-suc (between-squares (2 ^ 53) (a * 2 ^ 54) (suc r) (mul-le-mul-right (2 ^ 54) (A .low)) (H .over))
+digits-low a r A H =
+    le-of-suc-le-suc (between-squares (2 ^ 53) (a * 2 ^ 54) (suc r) (mul-le-mul-right (2 ^ 54) (A .low)) (H .over))
 
 -- not all of them are 1, so that rounding up adds no digit
 pub digits-high : (a r : ℕ) → Radicand a → IsRoot (a * 2 ^ 54) r → suc r < 2 ^ 54
-digits-high a r A H = suc-le-suc (between-squares r (a * 2 ^ 54) (2 ^ 54 - 1) (H .under) (under a (2 ^ 54 - 1) (le-of-suc-le-suc (A .high))))
+digits-high a r A H =
+    suc-le-suc
+    (between-squares r (a * 2 ^ 54) (2 ^ 54 - 1) (H .under) (under a (2 ^ 54 - 1) (le-of-suc-le-suc (A .high))))
   where
     under : (a p : ℕ) → a < p → a * suc p < p * p
     under a p h = let l : suc a * p ≤ p * p = mul-le-mul-right p h in omega arith
 
 -- ---- the powers of two add up
-powers : (m k s d K N L : ℕ) → s + d + N + (K + K) ≡ k + L → m * 2 ^ k * 2 ^ L ≡ m * 2 ^ s * 2 ^ d * 2 ^ N * (2 ^ K * 2 ^ K)
-powers m k s d K N L e = joined m k L ∙ ap (λ (x : ℕ). m * 2 ^ x) (sym e) ∙ sym (ap (λ (x : ℕ). m * 2 ^ s * 2 ^ d * 2 ^ N * x) (sym (pow-add 2 K K)) ∙ ap (λ (x : ℕ). x * 2 ^ N * 2 ^ (K + K)) (joined m s d) ∙ ap (λ (x : ℕ). x * 2 ^ (K + K)) (joined m (s + d) N) ∙ joined m (s + d + N) (K + K))
+powers : (m k s d K N L : ℕ) → s + d + N + (K + K) ≡ k + L
+    → m * 2 ^ k * 2 ^ L ≡ m * 2 ^ s * 2 ^ d * 2 ^ N * (2 ^ K * 2 ^ K)
+powers m k s d K N L e =
+    joined m k L ∙ ap (λ (x : ℕ). m * 2 ^ x) (sym e)
+    ∙ sym (ap (λ (x : ℕ). m * 2 ^ s * 2 ^ d * 2 ^ N * x) (sym (pow-add 2 K K))
+    ∙ ap (λ (x : ℕ). x * 2 ^ N * 2 ^ (K + K)) (joined m s d) ∙ ap (λ (x : ℕ). x * 2 ^ (K + K)) (joined m (s + d) N)
+    ∙ joined m (s + d + N) (K + K))
   where
     joined : (m a b : ℕ) → m * 2 ^ a * 2 ^ b ≡ m * 2 ^ (a + b)
     joined m a b = mul-assoc m (2 ^ a) (2 ^ b) ∙ ap (λ (x : ℕ). m * x) (sym (pow-add 2 a b))
@@ -114,13 +129,15 @@ powers m k s d K N L e = joined m k L ∙ ap (λ (x : ℕ). m * 2 ^ x) (sym e) �
 half-power : (e k s : ℕ) → s ≤ 52 → e ≡ k + 1022 - s → s + e % 2 + 54 + (e / 2 - 1 + (e / 2 - 1)) ≡ k + 1074
 half-power e k s l h = omega arith
 
-nearest-is : (m k r : ℕ) → 0 < m → m < 2 ^ 53 → IsRoot (shifted m (power m k) * 2 ^ 54) r → nearestRoot (m * 2 ^ k * 2 ^ 1074) ≡ units binary64 false ((r + 1) / 2) (power m k / 2)
+nearest-is : (m k r : ℕ) → 0 < m → m < 2 ^ 53 → IsRoot (shifted m (power m k) * 2 ^ 54) r
+    → nearestRoot (m * 2 ^ k * 2 ^ 1074) ≡ units binary64 false ((r + 1) / 2) (power m k / 2)
 nearest-is m k r p h H =
     let e = power m k in
     let a = shifted m e in
     let K = e / 2 - 1 in
     let w-is : m * 2 ^ k * 2 ^ 1074 ≡ a * 2 ^ 54 * (2 ^ K * 2 ^ K) =
-    powers m k (shift m) (e % 2) K 54 1074 (half-power e k (shift m) (shift-few m p h) refl) ∙ ap (λ (x : ℕ). x * 2 ^ 54 * (2 ^ K * 2 ^ K)) (sym (shifted-is m e p h)) in
+    powers m k (shift m) (e % 2) K 54 1074 (half-power e k (shift m) (shift-few m p h) refl)
+    ∙ ap (λ (x : ℕ). x * 2 ^ 54 * (2 ^ K * 2 ^ K)) (sym (shifted-is m e p h)) in
     let A = shifted-radicand m e p h in
     ap nearestRoot w-is
     ∙ nearestRoot-at (a * 2 ^ 54) r K (even a) H (digits-low a r A H) (le-of-lt (digits-high a r A H))
@@ -136,7 +153,8 @@ nearest-is m k r p h H =
     back e l = omega arith
 
 -- ---- the bits of the root
-pub root-bits : (bits m k r : ℕ) → Parts bits m k → 0 < bits → bits < 0x7ff0_0000_0000_0000 → IsRoot (shifted m (power m k) * 2 ^ 54) r → RootBits bits (power m k / 2 * 2 ^ 52 + (r + 1) / 2)
+pub root-bits : (bits m k r : ℕ) → Parts bits m k → 0 < bits → bits < 0x7ff0_0000_0000_0000
+    → IsRoot (shifted m (power m k) * 2 ^ 54) r → RootBits bits (power m k / 2 * 2 ^ 52 + (r + 1) / 2)
 root-bits bits m k r P lo hi H =
     let M = parts-pos bits m k P lo in
     let a = shifted m (power m k) in

@@ -1,7 +1,10 @@
--- The square root of an f64 as IEEE 754 has it: the exact root, rounded once to the nearest f64, and at a tie to the even one.
--- Everything is over whole numbers, by comparing squares. A finite f64 is a whole number of units of 2 ^ -1074, the smallest f64 above zero.
--- If x is n units, its root is √w units with w = n * 2 ^ 1074, since √(n * 2 ^ -1074) = √(n * 2 ^ 1074) * 2 ^ -1074. So there is no even or odd
--- exponent, no subnormal case and no fraction. Definitions only; `proofs/Nearest.antt` proves that no f64 is nearer to the exact root.
+-- The square root of an f64 as IEEE 754 has it: the exact root, rounded once to the nearest f64,
+-- and at a tie to the even one.
+-- Everything is over whole numbers, by comparing squares.
+-- A finite f64 is a whole number of units of 2 ^ -1074, the smallest f64 above zero.
+-- If x is n units, its root is √w units with w = n * 2 ^ 1074, since √(n * 2 ^ -1074) = √(n * 2 ^ 1074) * 2 ^ -1074. So
+-- there is no even or odd exponent, no subnormal case and no fraction. Definitions only;
+-- `proofs/Nearest.antt` proves that no f64 is nearer to the exact root.
 use Prim.Native.Nat.{ℕ, zero, suc, _+_, _-_, _*_, _/_, _^_, _≤_, _<_, compare}
 use mathlib.Core.Bool.{false, cond}
 use lib.Dec.{leb, eqb}
@@ -12,18 +15,21 @@ pub record IsRoot (n r : ℕ) : Type 0 where
   pub under : r * r ≤ n
   pub over : n < suc r * suc r
 
--- The largest r with r * r ≤ n, for an n below 4 ^ d: the root of n / 4, doubled, and one more where the square of that is still at most n.
+-- The largest r with r * r ≤ n, for an n below 4 ^ d: the root of n / 4, doubled,
+-- and one more where the square of that is still at most n.
 unfoldable pub rootIn : ℕ → ℕ → ℕ
 rootIn zero n = 0
 rootIn (suc d) n = let r = 2 * rootIn d (n / 4) in cond (leb (suc r * suc r) n) (suc r) r
 
--- The largest r with r * r ≤ n: n has `size n` binary digits, so it is below 4 ^ size n. `proofs/Root.antt` proves `IsRoot n (root n)`.
+-- The largest r with r * r ≤ n: n has `size n` binary digits, so it is below 4 ^ size n.
+-- `proofs/Root.antt` proves `IsRoot n (root n)`.
 unfoldable pub root : ℕ → ℕ
 unfolding rootIn size
 root n = rootIn (size n) n
 
--- The f64 nearest to √w units. Of the whole part r of √w an f64 keeps the 53 leading digits, q, and drops k. So √w lies between q * 2 ^ k and
--- (q + 1) * 2 ^ k, whose sum is `middle`: √w compares with the number halfway between them as 4 * w with the square of `middle`.
+-- The f64 nearest to √w units. Of the whole part r of √w an f64 keeps the 53 leading digits, q, and drops k. So √w lies
+-- between q * 2 ^ k and (q + 1) * 2 ^ k, whose sum is `middle`:
+-- √w compares with the number halfway between them as 4 * w with the square of `middle`.
 -- `nearest` and `units` are the rounding and the f64 that every operation of lib.Ieee ends with.
 unfoldable pub nearestRoot : ℕ → Float
 unfolding root size units

@@ -12,7 +12,8 @@ fn step(a: u64, h: u64) -> u64
     (h + a / h) / 2
 }
 
-// With a as z * 2^52, a first guess of second degree: (0.547 + 0.492 z - z^2 / 32) * 2^26, within 9 parts in 1000 of the root.
+// With a as z * 2^52, a first guess of second degree: (0.547 + 0.492 z - z^2 / 32) * 2^26,
+// within 9 parts in 1000 of the root.
 fn guess(a: u64) -> u64
     requires { ⌜ Radicand a ⌝ }
     ensures { λ r. ⌜ Guess r ⌝ }

@@ -91,7 +91,8 @@ module _ {m : Move} {q : Profile} (d : Made m q) where
   time-is : (i : ℕ) → time q i ≡ getD (timesOf (d .times)) i nan
   time-is i = ap (λ (t : List Float). getD t i nan) (made-yes .carried .t-is ∙ d .times-are)
 
-  jerk-at : (i : ℕ) → i < 7 → (s : Sign) → getD (patternOf (d .signs)) i Zero ≡ s → jerk q i ≡ jerkOf s (time q i) (d .jf)
+  jerk-at : (i : ℕ) → i < 7 → (s : Sign) → getD (patternOf (d .signs)) i Zero ≡ s
+      → jerk q i ≡ jerkOf s (time q i) (d .jf)
   jerk-at i l s e =
       ap (λ (j : List Float). getD j i nan) (made-yes .j-is)
       ∙ ap (λ (t : List Float). getD (jerksOf (d .signs) t (d .jf)) i nan) (sym (made-yes .carried .t-is))

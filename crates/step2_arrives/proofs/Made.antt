@@ -75,7 +75,8 @@ module _ {m : Move} where
               eight-v = h .eight-v;
               eight-p = h .eight-p;
               held-t =
-                  by-seven (λ (i : ℕ). T (fits binary64 (time (withTimes (timesOf x) q) i))) (f .t0) (f .t1) (f .t2) (f .t3)
+                  by-seven (λ (i : ℕ). T (fits binary64 (time (withTimes (timesOf x) q) i))) (f .t0) (f .t1) (f .t2)
+                  (f .t3)
                   (f .t4) (f .t5) (f .t6);
               held-a = h .held-a;
               held-v = h .held-v;

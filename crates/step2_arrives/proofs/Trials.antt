@@ -60,7 +60,8 @@ module _ {m : Move} (n : Numbers m) where
       let h1 = acc0Acc1VelUdduH1 s a-max a-min j-max in
       let t1 = acc0Acc1VelUdduT1 s a-max a-min j-max h1 in
       known-cond (acc0Acc1VelUdduApplies s a-max a-min j-max)
-      (λ z. known (acc0-acc1-vel-uddu-timed n h1 t1 (unfold acc0Acc1VelUdduT1 in search (div-fits))) (n .of-j-max .held))
+      (λ z.
+      known (acc0-acc1-vel-uddu-timed n h1 t1 (unfold acc0Acc1VelUdduT1 in search (div-fits))) (n .of-j-max .held))
       (λ z. none-known)
 
   pub acc0-acc1-vel-udud-known : Known m (acc0Acc1VelUdud s l)

@@ -3,8 +3,6 @@
 use mathlib.Core.Bool.{false, cond}
 use mathlib.Core.List.{List, [], _∷_}
 use lib.Ieee.{Float}
-use Rattle.labels.specs.declared.ReachedLimits.{ReachedLimits}
-use Rattle.labels.specs.declared.ControlSigns.{ControlSigns}
 use Rattle.profile.specs.declared.Profile.{Profile}
 use Rattle.profile.specs.declared.Checked.{Checked}
 use Rattle.profile.specs.Parts.{withTimes}

@@ -1,8 +1,8 @@
 // A trial of a shape: its seven times, held against the goal and the limits by `check`.
 // The arrays are those of the profile, lent so that nothing is copied from one attempt to the next.
 use labels::Labels;
-use profile::in_place::Answer;
 use profile::in_place::Goal;
+use profile::in_place::Verdict;
 use profile::in_place::check;
 use step2_solver::Limits;
 use step2_solver::Trial;
@@ -22,7 +22,7 @@ pub fn tried(
     p: &mut [f64; 8],
     goal: Goal,
     labels: Labels,
-) -> Answer
+) -> Verdict
     ensures { λ r. ⌜ record {
       ok = r .ok;
       profile = profileOf (now (t .exit)) (now («t_sum» .exit)) (now (j .exit))
@@ -63,6 +63,6 @@ pub fn tried(
             l.a_min,
         )
     } else {
-        Answer { ok: false, labels }
+        Verdict { ok: false, labels }
     }
 }

@@ -1,6 +1,5 @@
 -- The two quartics of the second and of the third shape: UDDU's and UDUD's. Definitions only.
-use mathlib.Core.List.{List, [], _∷_}
-use lib.Ieee.{Float}
+use mathlib.Core.List.{[], _∷_}
 use Rattle.float.specs.Ops.{#0}
 use Rattle.step2_solver.specs.declared.PositionThirdOrderStep2.{PositionThirdOrderStep2}
 use Rattle.step2_solver.specs.declared.Limits.{Limits}

@@ -21,7 +21,7 @@ use Rattle.rounding.proofs.Literals.{val-0, number-0}
 use Rattle.rounding.proofs.Errors.{off-as, off-scale, off-within, off-times}
 use Rattle.rounding.proofs.Negations.{neg-same, neg-size}
 use Rattle.step2_solver.specs.declared.Times.{Times}
-use Rattle.step2_times.specs.Facts.{Accepted, Jerks, jerkIn, residual}
+use Rattle.step2_times.specs.Facts.{Accepted, Jerks, recordedJerk, residual}
 use Rattle.step2_times.proofs.Within.{zero-none}
 
 -- ---- a recorded jerk
@@ -42,7 +42,7 @@ none-of : (t x : D) → t .p + t .n ≡ 0 → Same (t ⊠ x) nought
 none-of t x e = omega (arith, ap (λ (y : ℕ). y * x .p) e, ap (λ (y : ℕ). y * x .n) e)
 
 -- t times the jerk recorded for x is t times x
-jerk-same : (t x j : Float) → T (fits binary64 t) → Finite t → Below nought (val t) → j ≡ jerkIn t x
+jerk-same : (t x j : Float) → T (fits binary64 t) → Finite t → Below nought (val t) → j ≡ recordedJerk t x
     → Same (val t ⊠ val j) (val t ⊠ val x)
 jerk-same t x j f k a e = go (lt #0 t) e (no-time t f k a)
   where
@@ -65,7 +65,8 @@ module _ {t : ℕ → Float} {x : Times} (a : Accepted t x) {jf : Float} {j : �
       (val (neg jf)) (val #0) (here 0 (lit≤ tt) jf (h .plus)) (here 1 (lit≤ tt) #0 (h .none))
       (here 2 (lit≤ tt) (neg jf) (h .minus)) (neg-same jf) zero-none
     where
-      here : (i : ℕ) → i < 7 → (y : Float) → j i ≡ jerkIn (t i) y → Same (val (t i) ⊠ val (j i)) (val (t i) ⊠ val y)
+      here : (i : ℕ) → i < 7 → (y : Float) → j i ≡ recordedJerk (t i) y
+          → Same (val (t i) ⊠ val (j i)) (val (t i) ⊠ val y)
       here i l y e = jerk-same (t i) y (j i) (a .held i l) (a .finite i l) (a .above i l) e
 
       times : (t x y : D) → Same x y → Same (t ⊠ x) (t ⊠ y)

@@ -45,15 +45,15 @@ pub record Lasts (t : ℕ → Float) (tf : Float) : Type 0 where
   pub bound : err * 2 ^ 53 ≤ roundings * unit
 
 -- the jerk of a phase of the time t: x where t is above 0, else 0
-abbrev pub jerkIn : Float → Float → Float
-jerkIn t x = cond (lt #0 t) x #0
+abbrev pub recordedJerk : Float → Float → Float
+recordedJerk t x = cond (lt #0 t) x #0
 
 -- j are the jerks that are recorded with the times t and the jerk jf: + 0 - in phases 0 to 2, under both sign patterns.
 -- Each is 64 at most in size.
 pub record Jerks (jf : Float) (t j : ℕ → Float) : Type 0 where
-  pub plus : j 0 ≡ jerkIn (t 0) jf
-  pub none : j 1 ≡ jerkIn (t 1) #0
-  pub minus : j 2 ≡ jerkIn (t 2) (neg jf)
+  pub plus : j 0 ≡ recordedJerk (t 0) jf
+  pub none : j 1 ≡ recordedJerk (t 1) #0
+  pub minus : j 2 ≡ recordedJerk (t 2) (neg jf)
   pub finite : (i : ℕ) → i < 7 → Finite (j i)
   pub size : (i : ℕ) → i < 7 → Size (val (j i)) (64 * unit)
 

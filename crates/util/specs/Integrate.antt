@@ -1,4 +1,5 @@
--- `integrate` of util.rs: the state after the time t at the constant jerk j, each operation rounded once, in the Rust's order. Definitions only.
+-- Definitions only. `integrate` of util.rs: the state after the time t at the constant jerk j,
+-- each operation rounded once, in the Rust's order.
 use lib.Ieee.{Float}
 use Rattle.float.specs.Ops.{_⊕_, _⊗_, _⊘_, #2, #6}
 use Rattle.util.specs.declared.State.{State}

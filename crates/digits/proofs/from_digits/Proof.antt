@@ -16,7 +16,8 @@ abbrev μ-loop : tie.MeasureT-loop
 returns : tie.Need-returns Inv-loop μ-loop
 returns c =
     let s = c .before .before .args in
-    short (s .line .now) (s .at) (⊎-elim (λ w. omega (arith, w .taken)) (λ w. few (s .line .now) (s .at) (w .1 .taken)) (c .if1 .came))
+    short (s .line .now) (s .at)
+    (⊎-elim (λ w. omega (arith, w .taken)) (λ w. few (s .line .now) (s .at) (w .1 .taken)) (c .if1 .came))
 
 loop-holds : tie.Need-loop-holds Inv-loop μ-loop
 loop-holds c =
@@ -41,7 +42,11 @@ add-word c =
     let t = c .before .before .before in
     let l = t .before .loop in
     let s = t .before .before .before .before .before .args in
-    omega (arith, sum-fits (s .line .now) (s .at) (l .ok) (l .word) (l .i) (l .inv) (t .loop-test .taken) (c .value .result) (c .value .ensures))
+    omega (
+      arith,
+      sum-fits (s .line .now) (s .at) (l .ok) (l .word) (l .i) (l .inv) (t .loop-test .taken) (c .value .result)
+          (c .value .ensures),
+    )
 
 loop-again : tie.Need-loop-again Inv-loop μ-loop
 loop-again c =
@@ -49,7 +54,8 @@ loop-again c =
     let t = d .before .before in
     let l = t .before .loop in
     let s = t .before .before .before .before .before .args in
-    next (s .line .now) (s .at) (l .ok) (l .word) (l .i) (l .inv) (t .loop-test .taken) (c .value .result) (d .is-digit .result) (d .is-digit .ensures) (c .value .ensures)
+    next (s .line .now) (s .at) (l .ok) (l .word) (l .i) (l .inv) (t .loop-test .taken) (c .value .result)
+    (d .is-digit .result) (d .is-digit .ensures) (c .value .ensures)
 
 returns-2 : tie.Need-returns-2 Inv-loop μ-loop
 returns-2 c =
@@ -61,4 +67,6 @@ returns-2 c =
 pub from-digits-spec : {M : Type 1} → statement M
 from-digits-spec =
     tie.close
-    (tie.spec Inv-loop μ-loop returns loop-holds add-c shared-slice-read-c (λ c κs. search needs) mul-word (λ c κs. search needs) (λ c. search needs) add-word (λ c. search needs) (λ c. omega arith) loop-again (λ c κs. search needs) returns-2)
+    (tie.spec Inv-loop μ-loop returns loop-holds add-c shared-slice-read-c (λ c κs. search needs) mul-word
+    (λ c κs. search needs) (λ c. search needs) add-word (λ c. search needs) (λ c. omega arith) loop-again
+    (λ c κs. search needs) returns-2)

@@ -12,7 +12,9 @@ unfolding encodeOf
 returns c =
     let e = c .before in
     let b = e .before .before .before in
-    written _ (numberBytes (b .before .args .x)) _ (replicate 16 0) (e .encode .result) (b .to-be-bytes .ensures) (e .encode .ensures)
+    written _ (numberBytes (b .before .args .x)) _ (replicate 16 0) (e .encode .result) (b .to-be-bytes .ensures)
+    (e .encode .ensures)
 
 pub to-digits-spec : {M : Type 1} → statement M
-to-digits-spec = tie.close (tie.spec (λ c κs. search needs) (λ c. search needs) (λ c. search needs) (λ c κs. search needs) returns)
+to-digits-spec =
+    tie.close (tie.spec (λ c κs. search needs) (λ c. search needs) (λ c. search needs) (λ c κs. search needs) returns)

@@ -1,4 +1,5 @@
--- `all_digits` is `allDigits`. The invariant: what is still to be tested from here is the whole from the start. Assumes nothing.
+-- `all_digits` is `allDigits`. Assumes nothing.
+-- The invariant: what is still to be tested from here is the whole from the start.
 use Prim.Native.Nat.{_≤_, _-_}
 use mathlib.Core.Path.{_≡_, refl, _∙_}
 use mathlib.Core.Bool.{_&&_}
@@ -31,13 +32,23 @@ loop-again c =
     let l = r .before .before in
     let line = l .before .before .args .line .now in
     let k = l .loop .k in
-    let ok = leb (l .loop .less-48) 22 && leb (l .loop .less-65) 248 in
-    (omega arith, rw (c .larger2 .ensures, s2 .sum2 .ensures, g1 .larger .ensures, s1 .sum .ensures, one-more (l .loop .less-48) (l .loop .less-65) (getD line k 0) (l .before .shared-slice-known .given k .fits)) (tested line k ok (omega arith) ∙ l .loop .inv .1))
+    let ok = leb (l .loop .less-48) 22 && leb (l .loop .less-65) 248 in (
+      omega arith,
+      rw (
+        c .larger2 .ensures,
+        s2 .sum2 .ensures,
+        g1 .larger .ensures,
+        s1 .sum .ensures,
+        one-more (l .loop .less-48) (l .loop .less-65) (getD line k 0) (l .before .shared-slice-known .given k .fits),
+      ) (tested line k ok (omega arith) ∙ l .loop .inv .1),
+    )
 
 returns : tie.Need-returns Inv-loop μ-loop
 returns c =
     let l = c .before in
-    all-tested (l .before .before .args .line .now) (l .loop .k) (leb (l .loop .less-48) 22 && leb (l .loop .less-65) 248) (omega arith) ∙ l .loop .inv .1
+    all-tested (l .before .before .args .line .now) (l .loop .k)
+    (leb (l .loop .less-48) 22 && leb (l .loop .less-65) 248) (omega arith)
+    ∙ l .loop .inv .1
 
 pub all-digits-spec : {M : Type 1} → statement M
 all-digits-spec =

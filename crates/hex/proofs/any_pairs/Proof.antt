@@ -1,4 +1,5 @@
--- `any_pairs` stores `bytesOf`. The invariant: what is still to be stored from here is the whole from the start. Assumes nothing.
+-- `any_pairs` stores `bytesOf`. Assumes nothing.
+-- The invariant: what is still to be stored from here is the whole from the start.
 use Prim.Native.Nat.{_≤_, _+_, _*_, _/_, _-_}
 use mathlib.Core.Path.{_≡_, refl, _∙_}
 use native.Mathlib.Omega.{arith}
@@ -13,7 +14,8 @@ use Rattle.hex.proofs.any_pairs.Tie as tie
 
 abbrev Inv-loop : tie.InvT-loop
 Inv-loop line bytes₀ i₀ i-end bytes i =
-    (i ≤ length line / 2) × (length bytes ≡ length bytes₀) × (sets bytes i (bytesOf (drop (2 * i) line)) ≡ sets bytes₀ 0 (bytesOf line))
+    (i ≤ length line / 2) × (length bytes ≡ length bytes₀)
+    × (sets bytes i (bytesOf (drop (2 * i) line)) ≡ sets bytes₀ 0 (bytesOf line))
 
 abbrev μ-loop : tie.MeasureT-loop
 μ-loop line bytes₀ i₀ i-end bytes i = length line / 2 - i
@@ -22,21 +24,32 @@ loop-holds : tie.Need-loop-holds Inv-loop μ-loop
 loop-holds c = (omega arith, refl, refl)
 
 mul-bytes : tie.Need-mul-bytes Inv-loop μ-loop
-mul-bytes c = rw (c .value .ensures) (omega (arith, value-lt (getD (c .before .before .before .before .before .before .args .line .now) (2 * c .before .before .before .loop .i) 0)))
+mul-bytes c =
+    rw (c .value .ensures)
+    (omega (
+      arith,
+      value-lt (getD (c .before .before .before .before .before .before .args .line .now)
+          (2 * c .before .before .before .loop .i) 0),
+    ))
 
 add-bytes : tie.Need-add-bytes Inv-loop μ-loop
 add-bytes c =
     let v = c .before .before in
     let l = v .before .before .before in
     let line = l .before .before .before .args .line .now in
-    rw (v .value .ensures, c .value2 .ensures) (omega (arith, value-lt (getD line (2 * l .loop .i) 0), value-lt (getD line (2 * l .loop .i + 1) 0)))
+    rw (v .value .ensures, c .value2 .ensures)
+    (omega (arith, value-lt (getD line (2 * l .loop .i) 0), value-lt (getD line (2 * l .loop .i + 1) 0)))
 
 loop-again : tie.Need-loop-again Inv-loop μ-loop
 loop-again c =
     let v = c .before .before in
     let l = v .before .before .before in
-    let line = l .before .before .before .args .line .now in
-    (omega arith, simp length-set (l .loop .inv .1), rw (c .value2 .ensures, v .value .ensures) (paired line (l .loop .bytes) (l .loop .i) _ (omega arith) refl ∙ l .loop .inv .2))
+    let line = l .before .before .before .args .line .now in (
+      omega arith,
+      simp length-set (l .loop .inv .1),
+      rw (c .value2 .ensures, v .value .ensures)
+          (paired line (l .loop .bytes) (l .loop .i) _ (omega arith) refl ∙ l .loop .inv .2),
+    )
 
 returns : tie.Need-returns Inv-loop μ-loop
 returns c =

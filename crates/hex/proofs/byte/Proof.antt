@@ -14,10 +14,12 @@ sub-both : tie.Need-sub-both
 sub-both c = let d = c .args .digits in from-0 d (d % 0x100) (d / 0x100) (halves d) (c .pre .0) (c .pre .1)
 
 add-result : tie.Need-add-result
-add-result c = let d = c .args .digits in omega (arith, small d (d % 0x100) (d / 0x100) (halves d) (c .pre .0) (c .pre .1))
+add-result c =
+    let d = c .args .digits in omega (arith, small d (d % 0x100) (d / 0x100) (halves d) (c .pre .0) (c .pre .1))
 
 cast-result : tie.Need-cast-result
-cast-result c = let d = c .args .digits in omega (arith, small d (d % 0x100) (d / 0x100) (halves d) (c .pre .0) (c .pre .1))
+cast-result c =
+    let d = c .args .digits in omega (arith, small d (d % 0x100) (d / 0x100) (halves d) (c .pre .0) (c .pre .1))
 
 returns : tie.Need-returns
 returns c = let d = c .args .digits in byte-is d (d % 0x100) (d / 0x100) (halves d) (c .pre .0) (c .pre .1)

@@ -1,4 +1,5 @@
--- `nibbles` stores `nibblesOf`. The invariant: what is still to be stored from here is the whole from the start. Assumes nothing.
+-- `nibbles` stores `nibblesOf`. Assumes nothing.
+-- The invariant: what is still to be stored from here is the whole from the start.
 use Prim.Native.Nat.{_≤_, _*_, _-_}
 use mathlib.Core.Path.{_≡_, refl, _∙_}
 use native.Mathlib.Omega.{arith}
@@ -12,7 +13,8 @@ use Rattle.hex.proofs.nibbles.Tie as tie
 
 abbrev Inv-loop : tie.InvT-loop
 Inv-loop bytes reply₀ i₀ i-end reply i =
-    (i ≤ length bytes) × (length reply ≡ length reply₀) × (sets reply (2 * i) (nibblesOf (drop i bytes)) ≡ sets reply₀ 0 (nibblesOf bytes))
+    (i ≤ length bytes) × (length reply ≡ length reply₀)
+    × (sets reply (2 * i) (nibblesOf (drop i bytes)) ≡ sets reply₀ 0 (nibblesOf bytes))
 
 abbrev μ-loop : tie.MeasureT-loop
 μ-loop bytes reply₀ i₀ i-end reply i = length bytes - i
@@ -25,8 +27,11 @@ slice-write-reply-2 c = simp length-set (omega arith)
 
 loop-again : tie.Need-loop-again Inv-loop μ-loop
 loop-again c =
-    let l = c .before .before in
-    (omega arith, simp length-set (l .loop .inv .1), halved (l .before .args .bytes .now) (l .loop .reply) (l .loop .i) (omega arith) ∙ l .loop .inv .2)
+    let l = c .before .before in (
+      omega arith,
+      simp length-set (l .loop .inv .1),
+      halved (l .before .args .bytes .now) (l .loop .reply) (l .loop .i) (omega arith) ∙ l .loop .inv .2,
+    )
 
 returns : tie.Need-returns Inv-loop μ-loop
 returns c =

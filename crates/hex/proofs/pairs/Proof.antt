@@ -1,5 +1,6 @@
--- `pairs` stores `bytesOf`. The invariant: what is still to be stored from here is the whole from the start. Assumes nothing.
-use Prim.Native.Nat.{_≤_, _+_, _*_, _/_, _-_}
+-- `pairs` stores `bytesOf`. The invariant: what is still to be stored from here is the whole from the start.
+-- Assumes nothing.
+use Prim.Native.Nat.{_≤_, _*_, _/_, _-_}
 use mathlib.Core.Path.{_≡_, refl, _∙_}
 use native.Mathlib.Omega.{arith}
 use lib.ListN.{length, drop, length-set}
@@ -12,7 +13,8 @@ use Rattle.hex.proofs.pairs.Tie as tie
 
 abbrev Inv-loop : tie.InvT-loop
 Inv-loop line bytes₀ i₀ i-end bytes i =
-    (i ≤ length line / 2) × (length bytes ≡ length bytes₀) × (sets bytes i (bytesOf (drop (2 * i) line)) ≡ sets bytes₀ 0 (bytesOf line))
+    (i ≤ length line / 2) × (length bytes ≡ length bytes₀)
+    × (sets bytes i (bytesOf (drop (2 * i) line)) ≡ sets bytes₀ 0 (bytesOf line))
 
 abbrev μ-loop : tie.MeasureT-loop
 μ-loop line bytes₀ i₀ i-end bytes i = length line / 2 - i
@@ -34,7 +36,8 @@ byte-requires : tie.Need-byte-requires Inv-loop μ-loop
 byte-requires c κs =
     let l = c .before .before .before .before .before in
     let s = l .before .before .before in
-    both-digits (s .args .line .now) (l .loop .i) (c .side-by-side .result) (s .pre .0) (omega arith) (c .side-by-side .ensures)
+    both-digits (s .args .line .now) (l .loop .i) (c .side-by-side .result) (s .pre .0) (omega arith)
+    (c .side-by-side .ensures)
 
 loop-again : tie.Need-loop-again Inv-loop μ-loop
 loop-again c =
@@ -43,8 +46,16 @@ loop-again c =
     let s = l .before .before .before in
     let line = s .args .line .now in
     let r = d .side-by-side .result in
-    let e = d .side-by-side .ensures in
-    (omega arith, simp length-set (l .loop .inv .1), paired line (l .loop .bytes) (l .loop .i) (c .byte .result) (omega arith) (c .byte .ensures ∙ rw (lower line (l .loop .i) r (s .pre .0) (omega arith) e, upper line (l .loop .i) r (s .pre .0) (omega arith) e)) ∙ l .loop .inv .2)
+    let e = d .side-by-side .ensures in (
+      omega arith,
+      simp length-set (l .loop .inv .1),
+      paired line (l .loop .bytes) (l .loop .i) (c .byte .result) (omega arith)
+          (c .byte .ensures ∙ rw (
+            lower line (l .loop .i) r (s .pre .0) (omega arith) e,
+            upper line (l .loop .i) r (s .pre .0) (omega arith) e,
+          ))
+          ∙ l .loop .inv .2,
+    )
 
 returns : tie.Need-returns Inv-loop μ-loop
 returns c =

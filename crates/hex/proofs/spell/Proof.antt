@@ -1,7 +1,7 @@
--- `spell` turns the first n places from values to digits. The invariant: what is still to be stored from here is the whole from the start,
--- and what stands from here on is as it was. Assumes nothing.
-use Prim.Native.Nat.{_≤_, _<_, _-_}
-use mathlib.Core.Path.{_≡_, refl, sym, subst, _∙_}
+-- `spell` turns the first n places from values to digits. The invariant: what is still to be stored from here is the
+-- whole from the start, and what stands from here on is as it was. Assumes nothing.
+use Prim.Native.Nat.{_≤_, _-_}
+use mathlib.Core.Path.{_≡_, refl, _∙_}
 use mathlib.Core.List.{map}
 use native.Mathlib.Omega.{arith}
 use lib.ListN.{length, take, drop, length-set, length-map}
@@ -29,14 +29,23 @@ digit-requires : tie.Need-digit-requires Inv-loop μ-loop
 digit-requires c κs =
     let l = c .before .before in
     let q = l .before .before in
-    rw (unread (q .args .reply .now) (q .args .n) (q .pre .0) (l .loop .reply) (l .loop .k) (l .loop .inv .2)) (q .pre .1 (l .loop .k) (omega arith))
+    rw (unread (q .args .reply .now) (q .args .n) (q .pre .0) (l .loop .reply) (l .loop .k) (l .loop .inv .2))
+    (q .pre .1 (l .loop .k) (omega arith))
 
 loop-again : tie.Need-loop-again Inv-loop μ-loop
 loop-again c =
     let l = c .before .before .before in
     let q = l .before .before in
-    let l₀ = q .args .reply .now in
-    (omega arith, simp length-set (l .loop .inv .1), still l₀ (q .args .n) (q .pre .0) (l .loop .reply) (l .loop .k) _ (l .loop .inv .2), rw (c .digit .ensures, unread l₀ (q .args .n) (q .pre .0) (l .loop .reply) (l .loop .k) (l .loop .inv .2)) (spelt l₀ (q .args .n) (q .pre .0) (l .loop .reply) (l .loop .k) (omega arith) ∙ l .loop .inv .3))
+    let l₀ = q .args .reply .now in (
+      omega arith,
+      simp length-set (l .loop .inv .1),
+      still l₀ (q .args .n) (q .pre .0) (l .loop .reply) (l .loop .k) _ (l .loop .inv .2),
+      rw (
+        c .digit .ensures,
+        unread l₀ (q .args .n) (q .pre .0) (l .loop .reply) (l .loop .k) (l .loop .inv .2),
+      )
+          (spelt l₀ (q .args .n) (q .pre .0) (l .loop .reply) (l .loop .k) (omega arith) ∙ l .loop .inv .3),
+    )
 
 returns : tie.Need-returns Inv-loop μ-loop
 returns c =
@@ -46,7 +55,8 @@ returns c =
     let n = q .args .n in
     all-spelt l₀ n (q .pre .0) (l .loop .reply) (l .loop .k) (omega arith) (omega arith)
     ∙ l .loop .inv .3
-    ∙ sets-fill (map digitOf (take n l₀)) l₀ (rw (length-map (take n l₀) digitOf, length-take-le n l₀ (q .pre .0)) (q .pre .0))
+    ∙ sets-fill (map digitOf (take n l₀)) l₀
+    (rw (length-map (take n l₀) digitOf, length-take-le n l₀ (q .pre .0)) (q .pre .0))
 
 pub spell-spec : {M : Type 1} → statement M
 spell-spec =

@@ -20,7 +20,12 @@ returns-2 c =
     let n1 = n2 .before in
     let i = n1 .before in
     let q = i .before .before .args in
-    rw (ne-eqb (getD (q .frame .now) (q .at) 0) 0 (i .if1 .left), c .number-at4 .ensures, n2 .number-at3 .ensures, n1 .number-at2 .ensures)
+    rw (
+      ne-eqb (getD (q .frame .now) (q .at) 0) 0 (i .if1 .left),
+      c .number-at4 .ensures,
+      n2 .number-at3 .ensures,
+      n1 .number-at2 .ensures,
+    )
 
 pub root-answer-spec : {M : Type 1} → statement M
 root-answer-spec =

@@ -1,7 +1,5 @@
 -- `send` fills 728 places or none: a record has 364 bytes. Assumes nothing.
 use mathlib.Core.Path.{_≡_, _∙_}
-use Prim.Native.Nat.{_*_}
-use native.Mathlib.Omega.{arith}
 use lib.ListN.{length}
 use borrow.Author.Needs.{needs}
 use Rattle.line_reply.proofs.Written.{written}

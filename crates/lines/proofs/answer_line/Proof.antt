@@ -7,7 +7,8 @@ use Rattle.lines.proofs.answer_line.Tie as tie
 
 returns : tie.Need-returns
 unfolding outcomeOf
-returns c = ap (λ (o : Outcome). record { number = o .number; places = o .places }) (c .before .before .answered .ensures)
+returns c =
+    ap (λ (o : Outcome). record { number = o .number; places = o .places }) (c .before .before .answered .ensures)
 
 pub answer-line-spec : {M : Type 1} → statement M
 answer-line-spec = tie.close (tie.spec (λ c κs. search needs) (λ c. search needs) returns)

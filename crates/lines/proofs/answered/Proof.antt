@@ -10,7 +10,8 @@ returns : tie.Need-returns
 returns c =
     let n = c .before in
     let q = n .before .before .before .args in
-    first (q .request .now) (q .reply .now) (sym (n .length-fits .ensures) ∙ not-true (n .length-fits .result) (c .if1 .taken))
+    first (q .request .now) (q .reply .now)
+    (sym (n .length-fits .ensures) ∙ not-true (n .length-fits .result) (c .if1 .taken))
 
 returns-2 : tie.Need-returns-2
 returns-2 c =

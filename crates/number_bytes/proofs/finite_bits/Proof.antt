@@ -1,5 +1,4 @@
 -- `finite_bits` is `finite` of the number with these bits. Assumes nothing.
-use borrow.Author.Needs.{needs}
 use Rattle.number_bytes.proofs.Finite.{finite-is}
 use Rattle.number_bytes.proofs.finite_bits.Statement.{statement}
 use Rattle.number_bytes.proofs.finite_bits.Tie as tie

@@ -18,15 +18,29 @@ sqrt-requires-2 c κs = search needs
 
 returns : tie.Need-returns
 unfolding factorsOf
-returns c = rw (← c .before .before .before .small .ensures, ← c .before .small2 .ensures, c .before .before .if1 .taken, c .if2 .taken)
+returns c =
+    rw (
+      ← c .before .before .before .small .ensures,
+      ← c .before .small2 .ensures,
+      c .before .before .if1 .taken,
+      c .if2 .taken,
+    )
 
 returns-2 : tie.Need-returns-2
 unfolding factorsOf
-returns-2 c = rw (← c .before .before .before .before .small .ensures, ← c .before .before .small2 .ensures, c .before .before .before .if1 .taken, c .before .if2 .left, c .sqrt .ensures)
+returns-2 c =
+    rw (
+      ← c .before .before .before .before .small .ensures,
+      ← c .before .before .small2 .ensures,
+      c .before .before .before .if1 .taken,
+      c .before .if2 .left,
+      c .sqrt .ensures,
+    )
 
 returns-3 : tie.Need-returns-3
 unfolding factorsOf
 returns-3 c = rw (← c .before .before .small .ensures, c .before .if1 .left, c .sqrt2 .ensures)
 
 pub factor-spec : {M : Type 1} → statement M
-factor-spec = tie.close (tie.spec small-requires small-requires-2 sqrt-requires sqrt-requires-2 returns returns-2 returns-3)
+factor-spec =
+    tie.close (tie.spec small-requires small-requires-2 sqrt-requires sqrt-requires-2 returns returns-2 returns-3)

@@ -27,7 +27,8 @@ returns : tie.Need-returns
 unfolding quadraticOf insertAllOf
 returns c l h e =
     let a = c .before .before .before .args in
-    rw (← c .before .before .abs .ensures, c .before .if1 .taken) (inserted l (neg (a .p) ⊘ #2) h e (c .insert .ensures))
+    rw (← c .before .before .abs .ensures, c .before .if1 .taken)
+    (inserted l (neg (a .p) ⊘ #2) h e (c .insert .ensures))
 
 returns-2 : tie.Need-returns-2
 unfolding quadraticOf insertAllOf
@@ -35,8 +36,14 @@ returns-2 c l h e =
     let a = c .before .before .before .before .before .before .args in
     let s = c .before .before .sqrt .result in
     let x = (neg (a .p) ⊖ s) ⊘ #2 in
-    rw (← c .before .before .before .before .before .abs .ensures, c .before .before .before .before .if1 .left, c .before .before .before .if2 .taken, ← c .before .before .sqrt .ensures)
-    (inserted (insertOf l x) ((neg (a .p) ⊕ s) ⊘ #2) (insert-length l x h) (inserted l x h e (c .before .insert2 .ensures)) (c .insert3 .ensures))
+    rw (
+      ← c .before .before .before .before .before .abs .ensures,
+      c .before .before .before .before .if1 .left,
+      c .before .before .before .if2 .taken,
+      ← c .before .before .sqrt .ensures,
+    )
+    (inserted (insertOf l x) ((neg (a .p) ⊕ s) ⊘ #2) (insert-length l x h)
+    (inserted l x h e (c .before .insert2 .ensures)) (c .insert3 .ensures))
 
 returns-3 : tie.Need-returns-3
 unfolding quadraticOf insertAllOf

@@ -18,11 +18,13 @@ set4-requires-4 c κs = search needs
 
 returns : tie.Need-returns
 unfolding intoOf
-returns c = rw (c .set4 .ensures, c .before .before .before .if1 .taken, c .before .before .if2 .taken, c .before .if3 .taken)
+returns c =
+    rw (c .set4 .ensures, c .before .before .before .if1 .taken, c .before .before .if2 .taken, c .before .if3 .taken)
 
 returns-2 : tie.Need-returns-2
 unfolding intoOf
-returns-2 c = rw (c .set42 .ensures, c .before .before .before .if1 .taken, c .before .before .if2 .taken, c .before .if3 .left)
+returns-2 c =
+    rw (c .set42 .ensures, c .before .before .before .if1 .taken, c .before .before .if2 .taken, c .before .if3 .left)
 
 returns-3 : tie.Need-returns-3
 unfolding intoOf
@@ -33,4 +35,5 @@ unfolding intoOf
 returns-4 c = rw (c .set44 .ensures, c .before .if1 .left)
 
 pub into3-spec : {M : Type 1} → statement M
-into3-spec = tie.close (tie.spec set4-requires set4-requires-2 set4-requires-3 set4-requires-4 returns returns-2 returns-3 returns-4)
+into3-spec = tie.close (tie.spec set4-requires set4-requires-2 set4-requires-3 set4-requires-4 returns returns-2
+    returns-3 returns-4)

@@ -12,7 +12,13 @@ small-requires-2 c κs = search needs
 
 returns : tie.Need-returns
 unfolding needOf
-returns c = rw (← c .before .before .before .small .ensures, ← c .before .small2 .ensures, c .before .before .if1 .taken, c .if2 .taken)
+returns c =
+    rw (
+      ← c .before .before .before .small .ensures,
+      ← c .before .small2 .ensures,
+      c .before .before .if1 .taken,
+      c .if2 .taken,
+    )
 
 small-requires-3 : tie.Need-small-requires-3
 small-requires-3 c κs = search needs
@@ -51,4 +57,5 @@ unfolding needOf
 returns-4 c = rw (← c .before .small .ensures, c .if1 .left)
 
 pub quartic-need-spec : {M : Type 1} → statement M
-quartic-need-spec = tie.close (tie.spec small-requires small-requires-2 returns small-requires-3 small-requires-4 returns-2 returns-3 returns-4)
+quartic-need-spec = tie.close (tie.spec small-requires small-requires-2 returns small-requires-3 small-requires-4
+    returns-2 returns-3 returns-4)

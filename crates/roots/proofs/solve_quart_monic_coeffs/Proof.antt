@@ -51,35 +51,42 @@ unfolding offeredOf insertAllOf
 returns c =
     let s = c .before .before .before in
     let a = s .before .args in
-    rw (in-branch (a .a) (a .b) (a .c) (a .d) (s .quartic-need .ensures) (c .before .enum-told .given .1) refl) (c .solve-without-cd .ensures)
+    rw (in-branch (a .a) (a .b) (a .c) (a .d) (s .quartic-need .ensures) (c .before .enum-told .given .1) refl)
+    (c .solve-without-cd .ensures)
 
 returns-2 : tie.Need-returns-2
 unfolding offeredOf insertAllOf
 returns-2 c =
     let s = c .before .before .before .before .before .before in
     let a = s .before .args in
-    rw (in-branch (a .a) (a .b) (a .c) (a .d) (s .quartic-need .ensures) (c .before .before .before .before .enum-told2 .given .1) (c .before .before .answer .given .1)) (c .solve-with-cbrt .ensures)
+    rw (in-branch (a .a) (a .b) (a .c) (a .d) (s .quartic-need .ensures)
+    (c .before .before .before .before .enum-told2 .given .1) (c .before .before .answer .given .1))
+    (c .solve-with-cbrt .ensures)
 
 returns-3 : tie.Need-returns-3
 unfolding offeredOf insertAllOf
 returns-3 c =
     let s = c .before .before .before .before .before in
     let a = s .before .args in
-    rw (in-branch (a .a) (a .b) (a .c) (a .d) (s .quartic-need .ensures) (c .before .before .before .enum-told2 .given .1) (c .before .enum-told3 .given .1)) (c .new .ensures)
+    rw (in-branch (a .a) (a .b) (a .c) (a .d) (s .quartic-need .ensures)
+    (c .before .before .before .enum-told2 .given .1) (c .before .enum-told3 .given .1)) (c .new .ensures)
 
 returns-4 : tie.Need-returns-4
 unfolding offeredOf insertAllOf
 returns-4 c =
     let s = c .before .before .before .before .before in
     let a = s .before .args in
-    rw (in-branch (a .a) (a .b) (a .c) (a .d) (s .quartic-need .ensures) (c .before .before .before .enum-told4 .given .1) (c .before .enum-told5 .given .1)) (c .new2 .ensures)
+    rw (in-branch (a .a) (a .b) (a .c) (a .d) (s .quartic-need .ensures)
+    (c .before .before .before .enum-told4 .given .1) (c .before .enum-told5 .given .1)) (c .new2 .ensures)
 
 returns-5 : tie.Need-returns-5
 unfolding offeredOf insertAllOf
 returns-5 c =
     let s = c .before .before .before .before .before .before in
     let a = s .before .args in
-    rw (in-branch (a .a) (a .b) (a .c) (a .d) (s .quartic-need .ensures) (c .before .before .before .before .enum-told4 .given .1) (c .before .before .answer2 .given .1)) (c .solve-resolved .ensures)
+    rw (in-branch (a .a) (a .b) (a .c) (a .d) (s .quartic-need .ensures)
+    (c .before .before .before .before .enum-told4 .given .1) (c .before .before .answer2 .given .1))
+    (c .solve-resolved .ensures)
 
 pub solve-quart-monic-coeffs-spec : {M : Type 1} → statement M
 solve-quart-monic-coeffs-spec =

@@ -36,7 +36,9 @@ returns c =
     (c .before .insert-quadratic .ensures [] zero-le (c .before .before .new .ensures))
     ∙ ap placesOf (sym (insertAll-append u v []))
     ∙ ap (λ l. placesOf (insertAllOf [] l))
-    (by-factors (a .a) (a .b) (a .c) (a .d) (a .number-zeroes) (a .x3) (c .before .before .before .before .chosen .ensures) (c .before .before .before .factor .ensures))
+    (by-factors (a .a) (a .b) (a .c) (a .d) (a .number-zeroes) (a .x3)
+    (c .before .before .before .before .chosen .ensures) (c .before .before .before .factor .ensures))
 
 pub solve-resolved-spec : {M : Type 1} → statement M
-solve-resolved-spec = tie.close (tie.spec chosen-requires factor-requires new-requires insert-quadratic-requires insert-quadratic-requires-2 returns)
+solve-resolved-spec = tie.close (tie.spec chosen-requires factor-requires new-requires insert-quadratic-requires
+    insert-quadratic-requires-2 returns)

@@ -22,7 +22,13 @@ returns : tie.Need-returns
 returns c =
     let a = c .before .before .before .before .args in
     let l = a .x1 ∷ a .x2 ∷ [] in
-    rw (c .into2 .ensures, c .before .before .before .into1 .ensures, ← sorted-pair (a .x1) (a .x2), two (sortedOf l) (sorted-length l), sorted-cons (a .x0) l)
+    rw (
+      c .into2 .ensures,
+      c .before .before .before .into1 .ensures,
+      ← sorted-pair (a .x1) (a .x2),
+      two (sortedOf l) (sorted-length l),
+      sorted-cons (a .x0) l,
+    )
 
 pub sort3-spec : {M : Type 1} → statement M
 sort3-spec = tie.close (tie.spec into1-requires element-copy-out-into2 element-copy-out-into2-2 into2-requires returns)

@@ -25,7 +25,13 @@ returns : tie.Need-returns
 returns c =
     let a = c .before .before .before .before .before .args in
     let l = a .x1 ∷ a .x2 ∷ a .x3 ∷ [] in
-    rw (c .into3 .ensures, c .before .before .before .before .sort3 .ensures, three (sortedOf l) (sorted-length l), sorted-cons (a .x0) l)
+    rw (
+      c .into3 .ensures,
+      c .before .before .before .before .sort3 .ensures,
+      three (sortedOf l) (sorted-length l),
+      sorted-cons (a .x0) l,
+    )
 
 pub sort4-spec : {M : Type 1} → statement M
-sort4-spec = tie.close (tie.spec sort3-requires element-copy-out-into3 element-copy-out-into3-2 element-copy-out-into3-3 into3-requires returns)
+sort4-spec = tie.close (tie.spec sort3-requires element-copy-out-into3 element-copy-out-into3-2 element-copy-out-into3-3
+    into3-requires returns)

@@ -19,7 +19,8 @@ returns c =
     let a = c .before .before .args in
     c .sorted .ensures
     ∙ ap (λ k. placesOf (sortedOf k))
-    (ap heldOf (c .before .solve-quart-monic-arr .ensures) ∙ held-places (polynomRootsOf (a .polynom) (a .answer)) (roots-length _ _ _ _ (a .answer)))
+    (ap heldOf (c .before .solve-quart-monic-arr .ensures)
+    ∙ held-places (polynomRootsOf (a .polynom) (a .answer)) (roots-length _ _ _ _ (a .answer)))
 
 pub sorted-roots-spec : {M : Type 1} → statement M
 sorted-roots-spec = tie.close (tie.spec solve-quart-monic-arr-requires sorted-requires returns)

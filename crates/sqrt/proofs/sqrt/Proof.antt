@@ -14,7 +14,8 @@ float-to-bits-bits : tie.Need-float-to-bits-bits
 float-to-bits-bits c = no-nan (c .before .args .x) (c .if1 .taken)
 
 root-bits-requires : tie.Need-root-bits-requires
-root-bits-requires c κs = (bits-pos (c .before .before .args .x) (held (c .before .before)) (c .before .if1 .taken), c .if2 .taken)
+root-bits-requires c κs =
+    (bits-pos (c .before .before .args .x) (held (c .before .before)) (c .before .if1 .taken), c .if2 .taken)
 
 float-from-bits-result : tie.Need-float-from-bits-result
 float-from-bits-result c = no-nan-bits (c .root-bits .result) (c .root-bits .ensures .finite)
@@ -22,10 +23,12 @@ float-from-bits-result c = no-nan-bits (c .root-bits .result) (c .root-bits .ens
 returns : tie.Need-returns
 returns c =
     let start = c .before .before .before in
-    sqrt-finite (start .args .x) (c .root-bits .result) (held start) (c .before .before .if1 .taken) (c .before .if2 .taken) (c .root-bits .ensures)
+    sqrt-finite (start .args .x) (c .root-bits .result) (held start) (c .before .before .if1 .taken)
+    (c .before .if2 .taken) (c .root-bits .ensures)
 
 returns-2 : tie.Need-returns-2
-returns-2 c = let start = c .before .before in sqrt-infinite (start .args .x) (held start) (c .before .if1 .taken) (c .if2 .left)
+returns-2 c =
+    let start = c .before .before in sqrt-infinite (start .args .x) (held start) (c .before .if1 .taken) (c .if2 .left)
 
 returns-3 : tie.Need-returns-3
 returns-3 c = sqrt-zero (c .before .before .args .x) (c .if3 .taken)

@@ -1,4 +1,5 @@
--- `all_finite` is `allFinite` of the numbers. The invariant: what is still to be tested from here is the whole from the start. Assumes nothing.
+-- `all_finite` is `allFinite` of the numbers. Assumes nothing.
+-- The invariant: what is still to be tested from here is the whole from the start.
 use Prim.Native.Nat.{_≤_, _-_}
 use mathlib.Core.Path.{_≡_, _∙_}
 use mathlib.Core.Bool.{_&&_}
@@ -10,7 +11,8 @@ use Rattle.line_frame.proofs.reading.all_finite.Statement.{statement}
 use Rattle.line_frame.proofs.reading.all_finite.Tie as tie
 
 abbrev Inv-loop : tie.InvT-loop
-Inv-loop frame at n ok₀ i₀ ok i = (i ≤ n) × (ok && rest (byteAt frame) at n 0 i ≡ allFinite (numbersAt (byteAt frame) at n))
+Inv-loop frame at n ok₀ i₀ ok i =
+    (i ≤ n) × (ok && rest (byteAt frame) at n 0 i ≡ allFinite (numbersAt (byteAt frame) at n))
 
 abbrev μ-loop : tie.MeasureT-loop
 μ-loop frame at n ok₀ i₀ ok i = n - i
@@ -21,8 +23,11 @@ loop-holds c = (omega arith, start (byteAt (c .args .frame .now)) (c .args .at) 
 loop-again : tie.Need-loop-again Inv-loop μ-loop
 loop-again c =
     let l = c .before .before .before in
-    let q = l .before .args in
-    (omega arith, rw (c .finite-bits .ensures, c .before .word-at .ensures) (turn (byteAt (q .frame .now)) (q .at) (q .n) (l .loop .i) (l .loop .ok) (omega arith) ∙ l .loop .inv .1))
+    let q = l .before .args in (
+      omega arith,
+      rw (c .finite-bits .ensures, c .before .word-at .ensures)
+          (turn (byteAt (q .frame .now)) (q .at) (q .n) (l .loop .i) (l .loop .ok) (omega arith) ∙ l .loop .inv .1),
+    )
 
 returns : tie.Need-returns Inv-loop μ-loop
 returns c =

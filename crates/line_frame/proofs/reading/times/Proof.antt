@@ -10,8 +10,15 @@ returns c =
     let t3 = t4 .before in
     let t2 = t3 .before in
     let t1 = t2 .before in
-    rw
-    (c .number-at7 .ensures, t5 .number-at6 .ensures, t4 .number-at5 .ensures, t3 .number-at4 .ensures, t2 .number-at3 .ensures, t1 .number-at2 .ensures, t1 .before .number-at .ensures)
+    rw (
+      c .number-at7 .ensures,
+      t5 .number-at6 .ensures,
+      t4 .number-at5 .ensures,
+      t3 .number-at4 .ensures,
+      t2 .number-at3 .ensures,
+      t1 .number-at2 .ensures,
+      t1 .before .number-at .ensures,
+    )
 
 pub times-spec : {M : Type 1} → statement M
 times-spec =

@@ -17,7 +17,8 @@ returns c =
     let q = n .before in
     let s = q .before .before .before in
     rw (r .put-row .ensures)
-    (one-quartic (s .args .bytes .now) (s .args .at) _ _ _ _ (q .quartic-need .result) (n .need-number .result) (q .before .resolvent-arguments .result)
+    (one-quartic (s .args .bytes .now) (s .args .at) _ _ _ _ (q .quartic-need .result) (n .need-number .result)
+    (q .before .resolvent-arguments .result)
     (q .before .resolvent-arguments .ensures)
     (q .quartic-need .ensures)
     (n .need-number .ensures))

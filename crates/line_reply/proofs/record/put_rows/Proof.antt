@@ -13,8 +13,14 @@ returns c =
     let r1 = r2 .before .before .before in
     let start = r1 .before .before .before in
     let q = start .args in
-    rw
-    (c .put-row6 .ensures, r5 .put-row5 .ensures, r4 .put-row4 .ensures, r3 .put-row3 .ensures, r2 .put-row2 .ensures, r1 .put-row .ensures)
+    rw (
+      c .put-row6 .ensures,
+      r5 .put-row5 .ensures,
+      r4 .put-row4 .ensures,
+      r3 .put-row3 .ensures,
+      r2 .put-row2 .ensures,
+      r1 .put-row .ensures,
+    )
     (six-rows (q .t .now) (q .t-sum .now) (q .j .now) (q .a .now) (q .v .now) (q .p .now)
     (search needs)
     (search needs)

@@ -1,4 +1,5 @@
--- `put_row` stores the bytes of its numbers. The invariant: what is still to be stored from here is the whole from the start. Assumes nothing.
+-- `put_row` stores the bytes of its numbers. Assumes nothing.
+-- The invariant: what is still to be stored from here is the whole from the start.
 use Prim.Native.Nat.{_≤_, _+_, _*_, _-_}
 use mathlib.Core.Path.{_≡_, refl, _∙_}
 use native.Mathlib.Nat.{add-zero}
@@ -13,7 +14,8 @@ use Rattle.line_reply.proofs.stores.put_row.Tie as tie
 
 abbrev Inv-loop : tie.InvT-loop
 Inv-loop bytes₀ at row i₀ i-end bytes i =
-    (i ≤ length row) × (length bytes ≡ length bytes₀) × (sets bytes (at + 8 * i) (numbersBytes (drop i row)) ≡ sets bytes₀ at (numbersBytes row))
+    (i ≤ length row) × (length bytes ≡ length bytes₀)
+    × (sets bytes (at + 8 * i) (numbersBytes (drop i row)) ≡ sets bytes₀ at (numbersBytes row))
 
 abbrev μ-loop : tie.MeasureT-loop
 μ-loop bytes₀ at row i₀ i-end bytes i = length row - i
@@ -28,8 +30,11 @@ loop-again : tie.Need-loop-again Inv-loop μ-loop
 loop-again c =
     let k = c .before .before in
     let l = k .before .before .before .before in
-    let q = l .before .before .before .args in
-    (omega arith, rw (k .put .ensures) (simp length-sets (l .loop .inv .1)), rw (k .put .ensures) (turn (l .loop .bytes) (q .at) (q .row .now) (l .loop .i) _ (omega arith) ∙ l .loop .inv .2))
+    let q = l .before .before .before .args in (
+      omega arith,
+      rw (k .put .ensures) (simp length-sets (l .loop .inv .1)),
+      rw (k .put .ensures) (turn (l .loop .bytes) (q .at) (q .row .now) (l .loop .i) _ (omega arith) ∙ l .loop .inv .2),
+    )
 
 returns : tie.Need-returns Inv-loop μ-loop
 returns c =

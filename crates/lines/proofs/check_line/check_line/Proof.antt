@@ -21,7 +21,8 @@ unfolding frameAnswerOf questionsOf
 returns c =
     let f = c .before in
     let q = f .before .before .args in
-    refused _ (q .reply .now) [] 5 _ tt (sym (f .choices-fit .ensures) ∙ not-true (f .choices-fit .result) (c .if1 .taken))
+    refused _ (q .reply .now) [] 5 _ tt
+    (sym (f .choices-fit .ensures) ∙ not-true (f .choices-fit .result) (c .if1 .taken))
     (λ e. omega arith)
 
 returns-2 : tie.Need-returns-2

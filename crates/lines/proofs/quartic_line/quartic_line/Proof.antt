@@ -24,7 +24,8 @@ returns c =
     let m = c .before .before in
     let q = m .before .before .args in
     refused _ (q .reply .now) [] 6 _ tt
-    (move-unread (byteAt (q .frame .now)) (m .move-numbers .result) (m .move-numbers .ensures) (not-true _ (c .if1 .taken)))
+    (move-unread (byteAt (q .frame .now)) (m .move-numbers .result) (m .move-numbers .ensures)
+    (not-true _ (c .if1 .taken)))
     (λ e. omega arith)
 
 returns-2 : tie.Need-returns-2
@@ -56,7 +57,8 @@ returns-3 c =
     replied (replyOf (OfQuartics (q .shape)) at) (q .reply .now) _
     (r .0, (le-leb quarticsPlaces (length (q .reply .now)) (i2 .if2 .left), tt))
     _
-    (filled quarticsPlaces (quarticBytes (p .uddu) ++ quarticBytes (p .udud)) (q .reply .now) _ (w .write-quartics .result)
+    (filled quarticsPlaces (quarticBytes (p .uddu) ++ quarticBytes (p .udud)) (q .reply .now) _
+    (w .write-quartics .result)
     (i2 .if2 .left) (w .write-quartics .ensures)
     ∙ rw (k .quartics-of .ensures, l .limits .ensures, s .solver .ensures, r .1))
 

@@ -16,7 +16,8 @@ returns : tie.Need-returns
 unfolding frameAnswerOf questionsOf replyOf
 returns c =
     let lent = c .before .before .before .args .reply .now in
-    rw (c .enum-told .given .1) (replied [] lent (ask 8 (leb 0 (length lent)) ∷ []) (le-leb 0 (length lent) zero-le, tt) lent refl)
+    rw (c .enum-told .given .1)
+    (replied [] lent (ask 8 (leb 0 (length lent)) ∷ []) (le-leb 0 (length lent) zero-le, tt) lent refl)
 
 returns-2 : tie.Need-returns-2
 returns-2 c =

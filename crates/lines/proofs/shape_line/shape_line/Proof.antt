@@ -22,7 +22,8 @@ unfolding frameAnswerOf questionsOf
 returns c =
     let f = c .before in
     let q = f .before .before .args in
-    refused _ (q .reply .now) [] 5 _ tt (sym (f .counts-fit .ensures) ∙ not-true (f .counts-fit .result) (c .if1 .taken))
+    refused _ (q .reply .now) [] 5 _ tt
+    (sym (f .counts-fit .ensures) ∙ not-true (f .counts-fit .result) (c .if1 .taken))
     (λ e. omega arith)
 
 returns-2 : tie.Need-returns-2
@@ -125,8 +126,14 @@ returns-5 c =
     )
     _
     (w .shape-reply .ensures
-    ∙ rw
-    (b .second-answer .ensures, a .first-answer .ensures, k .quartics-of .ensures, l .limits .ensures, s .solver .ensures, r .1))
+    ∙ rw (
+      b .second-answer .ensures,
+      a .first-answer .ensures,
+      k .quartics-of .ensures,
+      l .limits .ensures,
+      s .solver .ensures,
+      r .1,
+    ))
 
 pub shape-line-spec : {M : Type 1} → statement M
 shape-line-spec =

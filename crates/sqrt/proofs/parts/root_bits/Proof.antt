@@ -8,7 +8,8 @@ use Rattle.sqrt.proofs.parts.root_bits.Statement.{statement}
 use Rattle.sqrt.proofs.parts.root_bits.Tie as tie
 
 positive : (c : tie.After-parts) → 0 < c .parts .result .m
-positive c = parts-pos (c .before .args .bits) (c .parts .result .m) (c .parts .result .k) (c .parts .ensures) (c .before .pre .0)
+positive c = parts-pos (c .before .args .bits) (c .parts .result .m) (c .parts .result .k) (c .parts .ensures)
+    (c .before .pre .0)
 
 parts-requires : tie.Need-parts-requires
 parts-requires c κs = search needs
@@ -45,7 +46,11 @@ root54-requires c κs =
 add-result : tie.Need-add-result
 add-result c =
     let at = c .before .before .before .before in
-    omega (arith, digits-high _ (c .root54 .result) (shifted-radicand (at .parts .result .m) _ (positive at) (at .parts .ensures .few)) (c .root54 .ensures))
+    omega (
+      arith,
+      digits-high _ (c .root54 .result)
+          (shifted-radicand (at .parts .result .m) _ (positive at) (at .parts .ensures .few)) (c .root54 .ensures),
+    )
 
 add-result-2 : tie.Need-add-result-2
 add-result-2 c = search needs
@@ -53,7 +58,8 @@ add-result-2 c = search needs
 returns : tie.Need-returns
 returns c =
     let at = c .before .before .before .before in
-    root-bits (at .before .args .bits) (at .parts .result .m) (at .parts .result .k) (c .root54 .result) (at .parts .ensures) (at .before .pre .0) (at .before .pre .1) (c .root54 .ensures)
+    root-bits (at .before .args .bits) (at .parts .result .m) (at .parts .result .k) (c .root54 .result)
+    (at .parts .ensures) (at .before .pre .0) (at .before .pre .1) (c .root54 .ensures)
 
 pub root-bits-spec : {M : Type 1} → statement M
 root-bits-spec =
