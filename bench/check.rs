@@ -26,25 +26,19 @@ struct Asked {
     signs: u8,
     label: u8,
     set_limits: bool,
-    jf: f64,
-    v_max: f64,
-    v_min: f64,
-    a_max: f64,
-    a_min: f64,
+    /// jf, v_max, v_min, a_max, a_min.
+    numbers: [f64; 5],
 }
 
 /// A record as the exported functions take it.
 #[derive(Clone)]
 struct Record {
-    t: [f64; 7],
-    t_sum: [f64; 7],
-    j: [f64; 7],
-    a: [f64; 8],
-    v: [f64; 8],
-    p: [f64; 8],
-    pf: f64,
-    vf: f64,
-    af: f64,
+    /// t, t_sum, j.
+    sevens: [[f64; 7]; 3],
+    /// a, v, p.
+    eights: [[f64; 8]; 3],
+    /// pf, vf, af.
+    goal: [f64; 3],
 }
 
 /// The Rust keeps its own record, and the library's two ways another one.
@@ -65,34 +59,20 @@ fn read(line: &[u8]) -> Case {
     let mut profile = Profile::default();
     profile.set_boundary(p0, v0, a0, pf, vf, af);
     profile.t = frame::numbers(&bytes, frame::CHECK_TIMES);
-    let record = Record {
-        t: profile.t,
-        t_sum: profile.t_sum,
-        j: profile.j,
-        a: profile.a,
-        v: profile.v,
-        p: profile.p,
-        pf,
-        vf,
-        af,
-    };
-    let set_limits = set_limits == 1;
-    let asked = Asked { signs, label, set_limits, jf, v_max, v_min, a_max, a_min };
-    Case { asked, profile, record }
+    let record = record(&profile, [pf, vf, af]);
+    let numbers = [jf, v_max, v_min, a_max, a_min];
+    Case { asked: Asked { signs, label, set_limits: set_limits == 1, numbers }, profile, record }
+}
+
+fn record(of: &Profile, goal: [f64; 3]) -> Record {
+    Record { sevens: [of.t, of.t_sum, of.j], eights: [of.a, of.v, of.p], goal }
 }
 
 #[inline(always)]
 fn by_rust(q: &Asked, profile: &mut Profile) -> bool {
-    profile.check(
-        SIGNS[q.signs as usize],
-        LABELS[q.label as usize],
-        q.set_limits,
-        q.jf,
-        q.v_max,
-        q.v_min,
-        q.a_max,
-        q.a_min,
-    )
+    let (signs, label) = (SIGNS[q.signs as usize], LABELS[q.label as usize]);
+    let [jf, v_max, v_min, a_max, a_min] = q.numbers;
+    profile.check(signs, label, q.set_limits, jf, v_max, v_min, a_max, a_min)
 }
 
 /// The library's two ways take the same.
@@ -107,10 +87,12 @@ macro_rules! by_library {
         }
         $(#[inline(always)]
         fn $name(q: &Asked, r: &mut Record) -> u32 {
+            let ([t, t_sum, j], [a, v, p], [pf, vf, af]) = (&mut r.sevens, &mut r.eights, r.goal);
+            let [jf, v_max, v_min, a_max, a_min] = q.numbers;
             unsafe {
                 $check(
-                    &r.t, &mut r.t_sum, &mut r.j, &mut r.a, &mut r.v, &mut r.p, r.pf, r.vf, r.af,
-                    q.signs, q.label, q.set_limits, q.jf, q.v_max, q.v_min, q.a_max, q.a_min,
+                    t, t_sum, j, a, v, p, pf, vf, af,
+                    q.signs, q.label, q.set_limits, jf, v_max, v_min, a_max, a_min,
                 )
             }
         })*
@@ -129,24 +111,20 @@ fn number(yes: bool, profile: &Profile) -> u32 {
         + 8 * profile.limits as u32
 }
 
-fn same(ours: &[f64], theirs: &[f64]) -> bool {
-    ours.iter().zip(theirs).all(|(x, y)| x.to_bits() == y.to_bits() || x.is_nan() && y.is_nan())
+fn same<const N: usize>(ours: &[[f64; N]], theirs: &[[f64; N]]) -> bool {
+    let mut pairs = ours.as_flattened().iter().zip(theirs.as_flattened());
+    pairs.all(|(x, y)| x.to_bits() == y.to_bits() || x.is_nan() && y.is_nan())
 }
 
 /// Whether the move is accepted; both of the library's ways must leave what the Rust leaves.
 fn verdict(case: &Case) -> bool {
     let mut profile = case.profile.clone();
     let yes = by_rust(&case.asked, &mut profile);
+    let wanted = record(&profile, case.record.goal);
     for check in [in_place, by_value] {
-        let mut record = case.record.clone();
-        assert_eq!(check(&case.asked, &mut record), number(yes, &profile));
-        assert!(
-            same(&record.t_sum, &profile.t_sum)
-                && same(&record.j, &profile.j)
-                && same(&record.a, &profile.a)
-                && same(&record.v, &profile.v)
-                && same(&record.p, &profile.p)
-        );
+        let mut got = case.record.clone();
+        assert_eq!(check(&case.asked, &mut got), number(yes, &profile));
+        assert!(same(&got.sevens, &wanted.sevens) && same(&got.eights, &wanted.eights));
     }
     yes
 }

@@ -30,7 +30,8 @@ fn rounded(x: f64, root: impl Fn(u64) -> u64) -> f64 {
 pub fn by_division(x: f64) -> f64 {
     rounded(x, |a| {
         let step = |h: u64| (h + a / h) / 2;
-        let mut h = step(step(step(a / 0xC00_0000 + 47_000_000)));
+        let z = a / 0x400_0000;
+        let mut h = step(step(z * (1_056_700_000 - z) / 0x8000_0000 + 36_700_000));
         while a < h * h {
             h = step(h);
         }

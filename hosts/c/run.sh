@@ -10,10 +10,4 @@ set -eu
 
 . "$(dirname "$0")/../library.sh"
 cc -std=gnu11 -O2 -Wall -Wextra -I "$root/include" "$here/host.c" "$library" -o "$out/c_host"
-if [ $# -ge 2 ]; then
-    "$out/c_host" < "$lines" | cmp - "$2"
-    "$out/c_host" guard < "$lines" | cmp - "$2"
-    echo "the C host writes what $2 has, and no place outside a reply"
-else
-    "$out/c_host" < "$lines"
-fi
+run "$out/c_host" C outside

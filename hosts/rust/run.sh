@@ -9,10 +9,4 @@ set -eu
 . "$(dirname "$0")/../library.sh"
 rustc --edition 2021 -O --crate-name rust_host -L native="$(dirname "$library")" \
     "$here/host.rs" -o "$out/rust_host"
-if [ $# -ge 2 ]; then
-    "$out/rust_host" < "$lines" | cmp - "$2"
-    "$out/rust_host" guard < "$lines" | cmp - "$2"
-    echo "the Rust host writes what $2 has, and no place past a reply"
-else
-    "$out/rust_host" < "$lines"
-fi
+run "$out/rust_host" Rust past
