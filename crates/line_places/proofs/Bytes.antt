@@ -26,7 +26,7 @@ use Rattle.line_frame.specs.Frame.{Frame}
 use Rattle.line_reply.specs.Reply.{numbersBytes, headOf, rowsOf, replyBytesOf, quarticBytesOf, quarticBytes}
 use Rattle.step2_solver.specs.declared.Shape.{Shape}
 use Rattle.line_questions.specs.Questions.{quarticsAt}
-use Rattle.lines.specs.QuarticLine.{quarticLineOf}
+use Rattle.lines.specs.QuarticLine.{bothBytes, quarticLineOf}
 
 -- every one of a list is a byte
 abbrev pub Bytes : List ℕ → Type 0
@@ -123,7 +123,7 @@ of-list : (p : List Float) → Bytes (quarticBytes p)
 of-list p = quartic (getD p 0 nan) (getD p 1 nan) (getD p 2 nan) (getD p 3 nan)
 
 pub quartics-bytes : (shape : Shape) (at : Frame) → Bytes (quarticLineOf shape at)
-unfolding quarticLineOf
+unfolding bothBytes
 quartics-bytes shape at =
     let q = quarticsAt shape at in
     bytes-append (quarticBytes (q .uddu)) (quarticBytes (q .udud)) (of-list (q .uddu)) (of-list (q .udud))

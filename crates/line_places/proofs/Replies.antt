@@ -21,7 +21,7 @@ use Rattle.line_reply.specs.Reply.{numbersBytes, headOf, rowsOf, replyBytesOf, 
 use Rattle.line_reply.proofs.Rows.{length-numbers}
 use Rattle.lines.specs.CheckLine.{checkedOf, checkLineOf}
 use Rattle.lines.specs.ShapeLine.{startOf, shapeLineOf}
-use Rattle.lines.specs.QuarticLine.{quarticLineOf}
+use Rattle.lines.specs.QuarticLine.{bothBytes, quarticLineOf}
 use Rattle.lines.specs.Answer.{replyOf}
 use Rattle.line_places.proofs.Bytes.{Bytes, reply-bytes, quartics-bytes}
 
@@ -73,7 +73,7 @@ reply-length c h = rw (rows-length (c .profile) h)
 
 -- ---- two quartics: a need and seven numbers each
 quartics-length : (shape : Shape) (at : Frame) → length (quarticLineOf shape at) ≡ 114
-unfolding quarticLineOf quarticBytesOf
+unfolding bothBytes quarticBytesOf
 quartics-length shape at = refl
 
 -- ---- the reply, by what is asked

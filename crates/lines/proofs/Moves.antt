@@ -1,4 +1,5 @@
--- The ways out of a line of twelve numbers, which asks a shape or its quartics: from what each test says. Assumes nothing.
+-- Assumes nothing. The ways out of a line of twelve numbers, which asks a shape or its quartics:
+-- from what each test says.
 use mathlib.Core.Path.{_≡_, refl, sym}
 use mathlib.Core.Bool.{Bool, true, false, cond, true≢false}
 use mathlib.Core.List.{List, [], _∷_}
@@ -21,7 +22,8 @@ use Rattle.lines.proofs.Replies.{refused, replied}
 
 module _ (shape : Shape) (at : Frame) (lent : List ℕ) where
   abbrev Is : Bool → ℕ → List ℕ → Type 0
-  Is quartics n places = _≡_ {A = Answer} (record { number = n; places = places }) (frameAnswerOf (ofShape quartics shape) at lent)
+  Is quartics n places =
+      _≡_ {A = Answer} (record { number = n; places = places }) (frameAnswerOf (ofShape quartics shape) at lent)
 
   abbrev fits : Bool → Bool
   fits quartics = cond quartics true (countsFit shape at)
@@ -42,7 +44,8 @@ module _ (shape : Shape) (at : Frame) (lent : List ℕ) where
     unfolding frameAnswerOf questionsOf
     quartics-eighth false h l = absurd (true≢false (sym h))
     quartics-eighth true h l =
-        refused _ lent (ask 6 (moveFinite at) ∷ []) 8 _ (finite, tt) (lt-leb quarticsPlaces (length lent) l) (λ e. omega arith)
+        refused _ lent (ask 6 (moveFinite at) ∷ []) 8 _ (finite, tt) (lt-leb quarticsPlaces (length lent) l)
+        (λ e. omega arith)
 
     pub quartics-all : (quartics : Bool) → quartics ≡ true → quarticsPlaces ≤ length lent
         → (reply : List ℕ) → reply ≡ fill (hexOf (quarticLineOf shape at)) lent → Is quartics 0 reply

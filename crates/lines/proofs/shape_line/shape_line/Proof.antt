@@ -120,8 +120,14 @@ returns-7 c =
     (i6 .if6 .left)
     _
     (w .shape-reply .ensures
-    ∙ rw
-    (b .second-answer .ensures, a .first-answer .ensures, k .quartics-of .ensures, l .limits .ensures, s .solver .ensures, r .1))
+    ∙ rw (
+      b .second-answer .ensures,
+      a .first-answer .ensures,
+      k .quartics-of .ensures,
+      l .limits .ensures,
+      s .solver .ensures,
+      r .1,
+    ))
 
 pub shape-line-spec : {M : Type 1} → statement M
 shape-line-spec =
