@@ -83,7 +83,11 @@ fn shape_reply(
 fn answers_fit(quartics: bool, shape: Shape, frame: &[u8; FRAME]) -> bool
     ensures { λ r. ⌜ r ≡ cond quartics true (countsFit shape (byteAt (now (frame .entry)))) ⌝ }
 {
-    if quartics { true } else { counts_fit(shape, frame) }
+    if quartics {
+        true
+    } else {
+        counts_fit(shape, frame)
+    }
 }
 
 fn quartics_reply(q: Quartics, reply: &mut [u8])

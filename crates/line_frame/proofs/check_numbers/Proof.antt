@@ -18,10 +18,20 @@ returns c =
     let n2 = n3 .before in
     let n1 = n2 .before in
     let t = n1 .before in
-    rw
-    (c .number-at11 .ensures, n10 .number-at10 .ensures, n9 .number-at9 .ensures, n8 .number-at8 .ensures,
-    n7 .number-at7 .ensures, n6 .number-at6 .ensures, n5 .number-at5 .ensures, n4 .number-at4 .ensures,
-    n3 .number-at3 .ensures, n2 .number-at2 .ensures, n1 .number-at .ensures, t .times .ensures)
+    rw (
+      c .number-at11 .ensures,
+      n10 .number-at10 .ensures,
+      n9 .number-at9 .ensures,
+      n8 .number-at8 .ensures,
+      n7 .number-at7 .ensures,
+      n6 .number-at6 .ensures,
+      n5 .number-at5 .ensures,
+      n4 .number-at4 .ensures,
+      n3 .number-at3 .ensures,
+      n2 .number-at2 .ensures,
+      n1 .number-at .ensures,
+      t .times .ensures,
+    )
 
 pub check-numbers-spec : {M : Type 1} → statement M
 check-numbers-spec =

@@ -46,9 +46,10 @@ returns-3 c =
     let f = i1 .before in
     let q = f .before .before .args in
     let at = byteAt (q .frame .now) in
-    refused _ (q .reply .now) (ask 5 (choicesFit at) ∷ ask 6 (checkFinite at) ∷ []) 8 _
-    (sym (f .choices-fit .ensures) ∙ not-false (f .choices-fit .result) (i1 .if1 .left),
-    (sym (n .check-finite .ensures) ∙ not-false (n .check-finite .result) (i2 .if2 .left), tt))
+    refused _ (q .reply .now) (ask 5 (choicesFit at) ∷ ask 6 (checkFinite at) ∷ []) 8 _ (
+      sym (f .choices-fit .ensures) ∙ not-false (f .choices-fit .result) (i1 .if1 .left),
+      (sym (n .check-finite .ensures) ∙ not-false (n .check-finite .result) (i2 .if2 .left), tt),
+    )
     (lt-leb recordPlaces (length (q .reply .now)) (c .if3 .taken))
     (λ e. omega arith)
 
@@ -64,10 +65,13 @@ returns-4 c =
     let f = i1 .before in
     let q = f .before .before .args in
     let at = byteAt (q .frame .now) in
-    replied (replyOf OfCheck at) (q .reply .now) _
-    (sym (f .choices-fit .ensures) ∙ not-false (f .choices-fit .result) (i1 .if1 .left),
-    (sym (n .check-finite .ensures) ∙ not-false (n .check-finite .result) (i2 .if2 .left),
-    (le-leb recordPlaces (length (q .reply .now)) (i3 .if3 .left), tt)))
+    replied (replyOf OfCheck at) (q .reply .now) _ (
+      sym (f .choices-fit .ensures) ∙ not-false (f .choices-fit .result) (i1 .if1 .left),
+      (
+        sym (n .check-finite .ensures) ∙ not-false (n .check-finite .result) (i2 .if2 .left),
+        (le-leb recordPlaces (length (q .reply .now)) (i3 .if3 .left), tt),
+      ),
+    )
     _
     (k .check-reply .ensures ∙ rw (x .check-numbers .ensures))
 
