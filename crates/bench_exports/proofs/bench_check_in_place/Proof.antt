@@ -33,5 +33,4 @@ pub bench-check-in-place-spec : {M : Type 1} → statement M
 bench-check-in-place-spec =
     tie.close
     (tie.spec (λ c κs. search needs) (λ c κs. search needs) (λ c κs. search needs) (λ c κs. search needs)
-    (λ c κs. search needs)
-    returns)
+    (λ c κs. search needs) returns)

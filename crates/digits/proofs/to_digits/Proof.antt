@@ -17,4 +17,5 @@ returns c =
 
 pub to-digits-spec : {M : Type 1} → statement M
 to-digits-spec =
-    tie.close (tie.spec (λ c κs. search needs) (λ c. search needs) (λ c. search needs) (λ c κs. search needs) returns)
+    tie.close
+    (tie.spec (λ c κs. search needs) (λ c. search needs) (λ c. search needs) (λ c κs. search needs) returns)

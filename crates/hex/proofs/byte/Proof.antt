@@ -27,13 +27,5 @@ returns c = let d = c .args .digits in byte-is d (d % 0x100) (d / 0x100) (halves
 pub byte-spec : {M : Type 1} → statement M
 byte-spec =
     tie.close
-    (tie.spec
-    sub-both
-    (λ c. search needs)
-    (λ c. search needs)
-    (λ c. search needs)
-    (λ c. search needs)
-    (λ c. search needs)
-    add-result
-    cast-result
-    returns)
+    (tie.spec sub-both (λ c. search needs) (λ c. search needs) (λ c. search needs) (λ c. search needs)
+    (λ c. search needs) add-result cast-result returns)

@@ -46,12 +46,5 @@ returns-3 c =
 pub decode-spec : {M : Type 1} → statement M
 decode-spec =
     tie.close
-    (tie.spec
-    returns
-    (λ c κs. search needs)
-    pairs-requires
-    (λ c. search needs)
-    returns-2
-    any-pairs-requires
-    (λ c. search needs)
-    returns-3)
+    (tie.spec returns (λ c κs. search needs) pairs-requires (λ c. search needs) returns-2 any-pairs-requires
+    (λ c. search needs) returns-3)

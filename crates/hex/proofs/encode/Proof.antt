@@ -32,10 +32,4 @@ returns-2 c =
 pub encode-spec : {M : Type 1} → statement M
 encode-spec =
     tie.close
-    (tie.spec
-    returns
-    (λ c κs. omega arith)
-    (λ c. search needs)
-    spell-requires
-    (λ c. search needs)
-    returns-2)
+    (tie.spec returns (λ c κs. omega arith) (λ c. search needs) spell-requires (λ c. search needs) returns-2)

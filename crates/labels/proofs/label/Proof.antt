@@ -32,12 +32,5 @@ last c =
 pub label-spec : {M : Type 1} → statement M
 label-spec =
     tie.close
-    (tie.spec
-    (λ c. rw (c .if1 .taken))
-    (λ c. rw (c .if2 .taken))
-    (λ c. rw (c .if3 .taken))
-    (λ c. rw (c .if4 .taken))
-    (λ c. rw (c .if5 .taken))
-    (λ c. rw (c .if6 .taken))
-    (λ c. rw (c .if7 .taken))
-    last)
+    (tie.spec (λ c. rw (c .if1 .taken)) (λ c. rw (c .if2 .taken)) (λ c. rw (c .if3 .taken))
+    (λ c. rw (c .if4 .taken)) (λ c. rw (c .if5 .taken)) (λ c. rw (c .if6 .taken)) (λ c. rw (c .if7 .taken)) last)

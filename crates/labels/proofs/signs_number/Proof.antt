@@ -6,8 +6,4 @@ use Rattle.labels.proofs.signs_number.Tie as tie
 pub signs-number-spec : {M : Type 1} → statement M
 signs-number-spec =
     tie.close
-    (tie.spec
-    (λ c. search needs)
-    (λ c. search needs)
-    (λ c. search needs)
-    (λ c. search needs))
+    (tie.spec (λ c. search needs) (λ c. search needs) (λ c. search needs) (λ c. search needs))

@@ -21,5 +21,4 @@ returns-2 c =
     rw (← i .before .all-finite .ensures, i .if1 .left, c .zero-move .ensures)
 
 pub move-numbers-spec : {M : Type 1} → statement M
-move-numbers-spec =
-    tie.close (tie.spec (λ c κs. search needs) move-at-requires (λ c κs. tt) returns returns-2)
+move-numbers-spec = tie.close (tie.spec (λ c κs. search needs) move-at-requires (λ c κs. tt) returns returns-2)

@@ -73,21 +73,7 @@ loop-again c =
 pub answer-spec : {M : Type 1} → statement M
 answer-spec =
     tie.close
-    (tie.spec
-    Inv-loop
-    μ-loop
-    (λ c. omega arith)
-    (λ c. omega arith)
-    (λ c. omega arith)
-    (λ c. omega arith)
-    (λ c κs. search needs)
-    add-at
-    slice-reshare-prefix-write-all
-    (λ c. sym (length-take-le _ _ (slice-reshare-prefix-write-all (c .before))))
-    (λ c κs. search needs)
-    same-length
-    (λ c. search needs)
-    loop-less
-    loop-again
-    (λ c. omega arith)
-    (λ c. search needs))
+    (tie.spec Inv-loop μ-loop (λ c. omega arith) (λ c. omega arith) (λ c. omega arith) (λ c. omega arith)
+    (λ c κs. search needs) add-at slice-reshare-prefix-write-all
+    (λ c. sym (length-take-le _ _ (slice-reshare-prefix-write-all (c .before)))) (λ c κs. search needs) same-length
+    (λ c. search needs) loop-less loop-again (λ c. omega arith) (λ c. search needs))

@@ -12,15 +12,7 @@ array-share-prefix-last c = last-within (c .finish .ensures)
 pub main-spec : {M : Type 1} → statement M
 main-spec =
     tie.close
-    (tie.spec
-    (λ c κs. search needs)
-    (λ c κs. search needs)
-    (λ c. search needs)
-    (λ c. search needs)
-    (λ c κs. search needs)
-    (λ c κs. search needs)
-    array-share-prefix-last
-    (λ c. sym (length-take-le _ _ (array-share-prefix-last (c .before))))
-    (λ c κs. search needs)
-    (λ c. search needs)
-    (λ c. search needs))
+    (tie.spec (λ c κs. search needs) (λ c κs. search needs) (λ c. search needs) (λ c. search needs)
+    (λ c κs. search needs) (λ c κs. search needs) array-share-prefix-last
+    (λ c. sym (length-take-le _ _ (array-share-prefix-last (c .before)))) (λ c κs. search needs)
+    (λ c. search needs) (λ c. search needs))

@@ -16,4 +16,5 @@ returns-2 c = rw (← c .before .takes-roots .ensures, c .if1 .left)
 
 pub counts-fit-spec : {M : Type 1} → statement M
 counts-fit-spec =
-    tie.close (tie.spec (λ c κs. search needs) (λ c. search needs) (λ c. search needs) returns returns-2)
+    tie.close
+    (tie.spec (λ c κs. search needs) (λ c. search needs) (λ c. search needs) returns returns-2)

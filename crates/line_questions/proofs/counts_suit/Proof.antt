@@ -16,5 +16,6 @@ returns-2 c = rw (← c .before .takes-roots .ensures, c .if1 .left)
 
 pub counts-suit-spec : {M : Type 1} → statement M
 counts-suit-spec =
-    tie.close (tie.spec (λ c κs. search needs) (λ c. search needs) (λ c. search needs) (λ c κs. search needs) returns
+    tie.close
+    (tie.spec (λ c κs. search needs) (λ c. search needs) (λ c. search needs) (λ c κs. search needs) returns
     returns-2)

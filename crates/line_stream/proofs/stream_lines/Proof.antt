@@ -126,27 +126,7 @@ returns-2 c = out-of-room (c .before .loop .inv) (c .loop-test .left) .0
 pub stream-lines-spec : {M : Type 1} → statement M
 stream-lines-spec =
     tie.close
-    (tie.spec
-    Inv-loop
-    μ-loop
-    (λ c κs. search needs)
-    loop-holds
-    sub-loop
-    (λ c κs. search needs)
-    sub-keep
-    part-keep-start
-    part-keep-end
-    (λ c κs. search needs)
-    same-length
-    same-length-2
-    returns
-    sub-end-line
-    part-end-line-start
-    part-end-line-end
-    end-line-requires
-    add-at
-    loop-less
-    loop-again
-    same-length-3
-    same-length-4
+    (tie.spec Inv-loop μ-loop (λ c κs. search needs) loop-holds sub-loop (λ c κs. search needs) sub-keep
+    part-keep-start part-keep-end (λ c κs. search needs) same-length same-length-2 returns sub-end-line
+    part-end-line-start part-end-line-end end-line-requires add-at loop-less loop-again same-length-3 same-length-4
     returns-2)

@@ -11,10 +11,5 @@ slice-aggregate-read-digits c = sym (length-take-le (c .before .before .before .
 pub read-rest-spec : {M : Type 1} → statement M
 read-rest-spec =
     tie.close
-    (tie.spec
-    (λ c. search needs)
-    (λ c. search needs)
-    slice-aggregate-read-digits
-    (λ c κs. search needs)
-    (λ c. search needs)
-    (λ c. search needs))
+    (tie.spec (λ c. search needs) (λ c. search needs) slice-aggregate-read-digits (λ c κs. search needs)
+    (λ c. search needs) (λ c. search needs))

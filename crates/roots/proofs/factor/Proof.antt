@@ -43,4 +43,5 @@ returns-3 c = rw (← c .before .before .small .ensures, c .before .if1 .left, c
 
 pub factor-spec : {M : Type 1} → statement M
 factor-spec =
-    tie.close (tie.spec small-requires small-requires-2 sqrt-requires sqrt-requires-2 returns returns-2 returns-3)
+    tie.close
+    (tie.spec small-requires small-requires-2 sqrt-requires sqrt-requires-2 returns returns-2 returns-3)

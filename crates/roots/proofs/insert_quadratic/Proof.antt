@@ -52,12 +52,5 @@ returns-3 c l h e = rw (← c .before .before .abs .ensures, c .before .if1 .lef
 pub insert-quadratic-spec : {M : Type 1} → statement M
 insert-quadratic-spec =
     tie.close
-    (tie.spec
-    abs-requires
-    insert-requires
-    sqrt-requires
-    insert-requires-2
-    insert-requires-3
-    returns
-    returns-2
+    (tie.spec abs-requires insert-requires sqrt-requires insert-requires-2 insert-requires-3 returns returns-2
     returns-3)

@@ -35,5 +35,6 @@ unfolding intoOf
 returns-4 c = rw (c .set44 .ensures, c .before .if1 .left)
 
 pub into3-spec : {M : Type 1} → statement M
-into3-spec = tie.close (tie.spec set4-requires set4-requires-2 set4-requires-3 set4-requires-4 returns returns-2
-    returns-3 returns-4)
+into3-spec =
+    tie.close
+    (tie.spec set4-requires set4-requires-2 set4-requires-3 set4-requires-4 returns returns-2 returns-3 returns-4)

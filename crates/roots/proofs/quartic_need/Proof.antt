@@ -57,5 +57,7 @@ unfolding needOf
 returns-4 c = rw (← c .before .small .ensures, c .if1 .left)
 
 pub quartic-need-spec : {M : Type 1} → statement M
-quartic-need-spec = tie.close (tie.spec small-requires small-requires-2 returns small-requires-3 small-requires-4
-    returns-2 returns-3 returns-4)
+quartic-need-spec =
+    tie.close
+    (tie.spec small-requires small-requires-2 returns small-requires-3 small-requires-4 returns-2 returns-3
+    returns-4)

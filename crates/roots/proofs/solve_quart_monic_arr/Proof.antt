@@ -24,10 +24,6 @@ returns c = c .solve-quart-monic-coeffs .ensures
 pub solve-quart-monic-arr-spec : {M : Type 1} → statement M
 solve-quart-monic-arr-spec =
     tie.close
-    (tie.spec
-    array-read-solve-quart-monic-coeffs
-    array-read-solve-quart-monic-coeffs-2
-    array-read-solve-quart-monic-coeffs-3
-    array-read-solve-quart-monic-coeffs-4
-    solve-quart-monic-coeffs-requires
+    (tie.spec array-read-solve-quart-monic-coeffs array-read-solve-quart-monic-coeffs-2
+    array-read-solve-quart-monic-coeffs-3 array-read-solve-quart-monic-coeffs-4 solve-quart-monic-coeffs-requires
     returns)

@@ -91,22 +91,6 @@ returns-5 c =
 pub solve-quart-monic-coeffs-spec : {M : Type 1} → statement M
 solve-quart-monic-coeffs-spec =
     tie.close
-    (tie.spec
-    quartic-need-requires
-    enum-told
-    solve-without-cd-requires
-    enum-told-2
-    enum-known-answer
-    solve-with-cbrt-requires
-    enum-told-3
-    new-requires
-    enum-told-4
-    enum-told-5
-    new-requires-2
-    enum-known-answer-2
-    solve-resolved-requires
-    returns
-    returns-2
-    returns-3
-    returns-4
-    returns-5)
+    (tie.spec quartic-need-requires enum-told solve-without-cd-requires enum-told-2 enum-known-answer
+    solve-with-cbrt-requires enum-told-3 new-requires enum-told-4 enum-told-5 new-requires-2 enum-known-answer-2
+    solve-resolved-requires returns returns-2 returns-3 returns-4 returns-5)

@@ -40,5 +40,7 @@ returns c =
     (c .before .before .before .before .chosen .ensures) (c .before .before .before .factor .ensures))
 
 pub solve-resolved-spec : {M : Type 1} → statement M
-solve-resolved-spec = tie.close (tie.spec chosen-requires factor-requires new-requires insert-quadratic-requires
-    insert-quadratic-requires-2 returns)
+solve-resolved-spec =
+    tie.close
+    (tie.spec chosen-requires factor-requires new-requires insert-quadratic-requires insert-quadratic-requires-2
+    returns)

@@ -31,4 +31,6 @@ returns c =
     )
 
 pub sort3-spec : {M : Type 1} → statement M
-sort3-spec = tie.close (tie.spec into1-requires element-copy-out-into2 element-copy-out-into2-2 into2-requires returns)
+sort3-spec =
+    tie.close
+    (tie.spec into1-requires element-copy-out-into2 element-copy-out-into2-2 into2-requires returns)

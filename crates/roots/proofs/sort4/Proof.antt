@@ -33,5 +33,7 @@ returns c =
     )
 
 pub sort4-spec : {M : Type 1} → statement M
-sort4-spec = tie.close (tie.spec sort3-requires element-copy-out-into3 element-copy-out-into3-2 element-copy-out-into3-3
+sort4-spec =
+    tie.close
+    (tie.spec sort3-requires element-copy-out-into3 element-copy-out-into3-2 element-copy-out-into3-3
     into3-requires returns)

@@ -39,11 +39,4 @@ returns-4 c = sqrt-none (c .before .before .args .x) (c .before .if1 .left) (c .
 pub sqrt-spec : {M : Type 1} → statement M
 sqrt-spec =
     tie.close
-    (tie.spec
-    float-to-bits-bits
-    root-bits-requires
-    float-from-bits-result
-    returns
-    returns-2
-    returns-3
-    returns-4)
+    (tie.spec float-to-bits-bits root-bits-requires float-from-bits-result returns returns-2 returns-3 returns-4)

@@ -19,4 +19,5 @@ returns c =
 
 pub pattern-spec : {M : Type 1} → statement M
 pattern-spec =
-    tie.close (tie.spec (λ c κs. search needs) (λ c. search needs) (λ c. search needs) (λ c. search needs) returns)
+    tie.close
+    (tie.spec (λ c κs. search needs) (λ c. search needs) (λ c. search needs) (λ c. search needs) returns)

@@ -43,4 +43,5 @@ returns c =
 
 pub tests-under-spec : {M : Type 1} → statement M
 tests-under-spec =
-    tie.close (tie.spec (λ c κs. search needs) (λ c. search needs) (λ c. search needs) (λ c. search needs) returns)
+    tie.close
+    (tie.spec (λ c κs. search needs) (λ c. search needs) (λ c. search needs) (λ c. search needs) returns)

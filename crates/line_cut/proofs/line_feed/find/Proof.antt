@@ -55,23 +55,6 @@ returns-2 c =
 pub find-spec : {M : Type 1} → statement M
 find-spec =
     tie.close
-    (tie.spec
-    Inv-loop
-    μ-loop
-    (λ c. refl)
-    (λ c. omega arith)
-    no-feed-32-requires
-    (λ c. omega arith)
-    (λ c. omega arith)
-    loop-again
-    (λ c. omega arith)
-    no-feed-requires
-    (λ c. omega arith)
-    (λ c. omega arith)
-    loop-again-2
-    (λ c. omega arith)
-    returns
-    (λ c. omega arith)
-    (λ c. omega arith)
-    loop-again-3
-    returns-2)
+    (tie.spec Inv-loop μ-loop (λ c. refl) (λ c. omega arith) no-feed-32-requires (λ c. omega arith)
+    (λ c. omega arith) loop-again (λ c. omega arith) no-feed-requires (λ c. omega arith) (λ c. omega arith)
+    loop-again-2 (λ c. omega arith) returns (λ c. omega arith) (λ c. omega arith) loop-again-3 returns-2)

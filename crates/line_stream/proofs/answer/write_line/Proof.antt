@@ -44,15 +44,6 @@ returns-2 c =
 pub write-line-spec : {M : Type 1} → statement M
 write-line-spec =
     tie.close
-    (tie.spec
-    (λ c. sym (length-take-le _ _ (search needs)))
-    (λ c. search needs)
-    (λ c. search needs)
-    (λ c. search needs)
-    (λ c κs. search needs)
-    end-reply-requires
-    (λ c. search needs)
-    returns
-    (λ c κs. search needs)
-    (λ c. search needs)
-    returns-2)
+    (tie.spec (λ c. sym (length-take-le _ _ (search needs))) (λ c. search needs) (λ c. search needs)
+    (λ c. search needs) (λ c κs. search needs) end-reply-requires (λ c. search needs) returns
+    (λ c κs. search needs) (λ c. search needs) returns-2)

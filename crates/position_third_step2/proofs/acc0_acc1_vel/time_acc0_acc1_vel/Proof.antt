@@ -21,5 +21,4 @@ returns-2 c =
     (c .tried2 .ensures ∙ last)
 
 pub time-acc0-acc1-vel-spec : {M : Type 1} → statement M
-time-acc0-acc1-vel-spec =
-    tie.close (tie.spec (λ c κs. tt) (λ c κs. tt) returns (λ c κs. tt) (λ c κs. tt) returns-2)
+time-acc0-acc1-vel-spec = tie.close (tie.spec (λ c κs. tt) (λ c κs. tt) returns (λ c κs. tt) (λ c κs. tt) returns-2)

@@ -20,4 +20,5 @@ returns-2 c = rw (← c .before .abs2 .ensures, ← c .before .before .abs .ensu
 
 pub check-with-timing-full-spec : {M : Type 1} → statement M
 check-with-timing-full-spec =
-    tie.close (tie.spec (λ c κs. search needs) (λ c κs. search needs) (λ c κs. search needs) returns returns-2)
+    tie.close
+    (tie.spec (λ c κs. search needs) (λ c κs. search needs) (λ c κs. search needs) returns returns-2)

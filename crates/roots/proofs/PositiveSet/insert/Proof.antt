@@ -69,18 +69,6 @@ returns-5 c =
 pub insert-spec : {M : Type 1} → statement M
 insert-spec =
     tie.close
-    (tie.spec
-    element-copy-out-x0
-    element-copy-out-x1
-    element-copy-out-x2
-    element-copy-out-x3
-    insert0-requires
-    insert1-requires
-    insert2-requires
-    insert3-requires
-    set4-requires
-    returns
-    returns-2
-    returns-3
-    returns-4
+    (tie.spec element-copy-out-x0 element-copy-out-x1 element-copy-out-x2 element-copy-out-x3 insert0-requires
+    insert1-requires insert2-requires insert3-requires set4-requires returns returns-2 returns-3 returns-4
     returns-5)

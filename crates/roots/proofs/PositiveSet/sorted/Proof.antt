@@ -72,18 +72,5 @@ returns-5 c =
 pub sorted-spec : {M : Type 1} → statement M
 sorted-spec =
     tie.close
-    (tie.spec
-    element-copy-out-x0
-    element-copy-out-x1
-    element-copy-out-x2
-    element-copy-out-x3
-    set0-requires
-    set1-requires
-    into1-requires
-    sort3-requires
-    sort4-requires
-    returns
-    returns-2
-    returns-3
-    returns-4
-    returns-5)
+    (tie.spec element-copy-out-x0 element-copy-out-x1 element-copy-out-x2 element-copy-out-x3 set0-requires
+    set1-requires into1-requires sort3-requires sort4-requires returns returns-2 returns-3 returns-4 returns-5)

@@ -15,8 +15,5 @@ most a h =
 pub guess-spec : {M : Type 1} → statement M
 guess-spec =
     tie.close
-    (tie.spec
-    (λ c. omega (arith, c .pre))
-    (λ c. omega (arith, most (c .args .a) (c .pre)))
-    (λ c. omega (arith, most (c .args .a) (c .pre)))
-    (λ c. omega (arith, most (c .args .a) (c .pre))))
+    (tie.spec (λ c. omega (arith, c .pre)) (λ c. omega (arith, most (c .args .a) (c .pre)))
+    (λ c. omega (arith, most (c .args .a) (c .pre))) (λ c. omega (arith, most (c .args .a) (c .pre))))

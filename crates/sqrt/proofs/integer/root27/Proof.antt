@@ -39,15 +39,5 @@ returns c = record { under = c .loop-test .left; over = c .before .loop .inv .1 
 pub root27-spec : {M : Type 1} → statement M
 root27-spec =
     tie.close
-    (tie.spec
-    Inv-loop
-    μ-loop
-    (λ c κs. c .pre)
-    step-requires
-    step-requires-2
-    loop-holds
-    mul-loop
-    step-requires-3
-    loop-less
-    loop-again
-    returns)
+    (tie.spec Inv-loop μ-loop (λ c κs. c .pre) step-requires step-requires-2 loop-holds mul-loop step-requires-3
+    loop-less loop-again returns)

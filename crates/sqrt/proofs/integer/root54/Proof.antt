@@ -97,19 +97,5 @@ returns-2 c = kept _ _ _ _ _ (whole (c .before)) (parts (c .before)) (c .if1 .le
 pub root54-spec : {M : Type 1} → statement M
 root54-spec =
     tie.close
-    (tie.spec
-    root27-requires
-    mul-n
-    sub-n
-    mul-n-2
-    mul-c
-    div-c
-    mul-t
-    rem-t
-    mul-r
-    add-r
-    mul-if1
-    mul-if1-2
-    sub-result
-    returns
-    returns-2)
+    (tie.spec root27-requires mul-n sub-n mul-n-2 mul-c div-c mul-t rem-t mul-r add-r mul-if1 mul-if1-2 sub-result
+    returns returns-2)

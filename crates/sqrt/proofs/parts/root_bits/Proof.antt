@@ -64,17 +64,5 @@ returns c =
 pub root-bits-spec : {M : Type 1} → statement M
 root-bits-spec =
     tie.close
-    (tie.spec
-    parts-requires
-    sub-s
-    cast-q
-    shl-q
-    add-e
-    cast-e
-    sub-e
-    shl-a
-    mul-result
-    root54-requires
-    add-result
-    add-result-2
-    returns)
+    (tie.spec parts-requires sub-s cast-q shl-q add-e cast-e sub-e shl-a mul-result root54-requires add-result
+    add-result-2 returns)
