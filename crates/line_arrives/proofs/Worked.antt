@@ -25,7 +25,7 @@ use Rattle.step2_solver.specs.declared.Shape.the-variants.{Acc0Acc1Vel}
 use Rattle.step2_solver.specs.TimeAcc0Acc1Vel.{acc0Acc1VelUdduApplies, acc0Acc1VelUdduRadicand, acc0Acc1VelUdduH1}
 use Rattle.step2_solver.specs.TimeAcc0Acc1Vel.{acc0Acc1VelUdduT1, acc0Acc1VelUdduTimes, acc0Acc1VelUddu}
 use Rattle.step2_attempt.specs.Attempt.{attemptOf, tryOf, triedOf}
-use Rattle.line_kinds.specs.Kinds.{rowOf}
+use Rattle.line_kinds.specs.Kinds.{replyMost, rowOf}
 use Rattle.line_frame.specs.Frame.{wordAt}
 use Rattle.line_frame.specs.Numbers.{moveOf}
 use Rattle.line_questions.specs.Questions.{countsFit, countsSuit, questionsOf}
@@ -37,7 +37,7 @@ use Rattle.line_arrives.specs.Worked.{worked-line}
 use Rattle.line_arrives.proofs.Theorem.{yes-arrives}
 
 abbrev answer : Answer
-answer = answerOf worked-line (replicate 728 0)
+answer = answerOf worked-line (replicate replyMost 0)
 
 -- all of it computes
 met : (answer .number ≡ 0) × AsksShape worked-line × SaysYes (answer .places) × Sizes worked-line (answer .places)
@@ -67,5 +67,5 @@ met = (
   },
 )
 
-pub worked-arrives : Demand3 worked-line (answerOf worked-line (replicate 728 0) .places)
-worked-arrives = yes-arrives worked-line (replicate 728 0) (met .0) (met .1) (met .2) (met .3)
+pub worked-arrives : Demand3 worked-line (answerOf worked-line (replicate replyMost 0) .places)
+worked-arrives = yes-arrives worked-line (replicate replyMost 0) (met .0) (met .1) (met .2) (met .3)

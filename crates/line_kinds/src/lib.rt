@@ -6,9 +6,9 @@ ghost use Rattle.line_kinds.specs.Kinds.{takesRoots, rowOf};
 // The bytes of the longest frame, the characters of the longest line, and the places of the longest reply.
 pub const FRAME: usize = 148;
 
-pub const LINE: usize = 296;
+pub const LINE: usize = 2 * FRAME;
 
-pub const REPLY: usize = 728;
+pub const REPLY: usize = RECORD;
 
 // The places of a record and of two quartics.
 pub const RECORD: usize = 728;

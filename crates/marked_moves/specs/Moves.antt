@@ -12,6 +12,7 @@ use Rattle.roots.specs.declared.RootAnswer.the-variants.{CubeRoot}
 use Rattle.roots.specs.Set.{sortedOf}
 use Rattle.roots.specs.Quartic.{rootsOf}
 use Rattle.hex.specs.Hex.{bytesOf, hexOf}
+use Rattle.line_kinds.specs.Kinds.{replyMost}
 use Rattle.line_frame.specs.Frame.{byteAt, numberAt, numbersAt}
 use Rattle.line_reply.specs.Reply.{numbersBytes}
 use Rattle.lines.specs.Answer.{Answer, answerOf}
@@ -54,9 +55,9 @@ abbrev least-negative : Float
 least-negative = ofBits binary64 0x8000_0000_0000_0001
 
 -- ---- lines
--- the answer to a frame, where 728 places are lent
+-- the answer to a frame, where the places of the longest reply are lent
 abbrev answered : List ℕ → Answer
-answered frame = answerOf (hexOf frame) (replicate 728 0)
+answered frame = answerOf (hexOf frame) (replicate replyMost 0)
 
 -- Kind 00, with set_limits 0: the start is at rest in 0 but for a0, jf is 1, af is 0, the limits are plus and minus v
 -- and a.
@@ -157,10 +158,10 @@ table =
     -- quartic -3 2 0 0 inserts 0, 1, 2
     ∷ all-same (sortedOf (rootsOf (neg #3) #2 #0 #0 (CubeRoot #0))) (#0 ∷ #1 ∷ #2 ∷ [])
     -- whole case: 00000700 and 288 zeros print 01070100 and 720 zeros
-    ∷ all-equal (answerOf (48 ∷ 48 ∷ 48 ∷ 48 ∷ 48 ∷ 55 ∷ 48 ∷ 48 ∷ replicate 288 48) (replicate 728 0) .places)
+    ∷ all-equal (answerOf (48 ∷ 48 ∷ 48 ∷ 48 ∷ 48 ∷ 55 ∷ 48 ∷ 48 ∷ replicate 288 48) (replicate replyMost 0) .places)
     (48 ∷ 49 ∷ 48 ∷ 55 ∷ 48 ∷ 49 ∷ 48 ∷ 48 ∷ replicate 720 48)
     -- an empty line gets number 1
-    ∷ eqb (answerOf [] (replicate 728 0) .number) 1
+    ∷ eqb (answerOf [] (replicate replyMost 0) .number) 1
     ∷ []
 
 -- every row is as the document says

@@ -2,6 +2,7 @@
 use mathlib.Core.Path.{refl}
 use mathlib.Core.List.{_++_}
 use borrow.Author.Needs.{needs}
+use Rattle.line_kinds.specs.Kinds.{quarticsPlaces}
 use Rattle.line_reply.specs.Reply.{quarticBytes, quarticBytesOf}
 use Rattle.line_reply.proofs.Written.{written}
 use Rattle.line_reply.proofs.write_quartics.Statement.{statement}
@@ -18,7 +19,7 @@ returns c =
     let p = e .before .before .before in
     let s = p .before .before .before in
     rw (e .encode .ensures, p .put-quartics .ensures)
-    (written 228 (quarticBytes (s .args .uddu) ++ quarticBytes (s .args .udud)) (s .args .reply .now) refl)
+    (written quarticsPlaces (quarticBytes (s .args .uddu) ++ quarticBytes (s .args .udud)) (s .args .reply .now) refl)
 
 pub write-quartics-spec : {M : Type 1} → statement M
 write-quartics-spec =
