@@ -41,14 +41,56 @@ move-at-spec =
     tie.close
     (tie.spec (λ c κs. (search needs, each-finite (byteAt (c .args .frame .now)) 1 12 (c .pre) 0 (lit≤ tt)))
     (λ c κs. (search needs, each-finite (byteAt (c .before .args .frame .now)) 1 12 (c .before .pre) 1 (lit≤ tt)))
-    (λ c κs. (search needs, each-finite (byteAt (c .before .before .args .frame .now)) 1 12 (c .before .before .pre) 2 (lit≤ tt)))
-    (λ c κs. (search needs, each-finite (byteAt (c .before .before .before .args .frame .now)) 1 12 (c .before .before .before .pre) 3 (lit≤ tt)))
-    (λ c κs. (search needs, each-finite (byteAt (c .before .before .before .before .args .frame .now)) 1 12 (c .before .before .before .before .pre) 4 (lit≤ tt)))
-    (λ c κs. (search needs, each-finite (byteAt (c .before .before .before .before .before .args .frame .now)) 1 12 (c .before .before .before .before .before .pre) 5 (lit≤ tt)))
-    (λ c κs. (search needs, each-finite (byteAt (c .before .before .before .before .before .before .args .frame .now)) 1 12 (c .before .before .before .before .before .before .pre) 6 (lit≤ tt)))
-    (λ c κs. (search needs, each-finite (byteAt (c .before .before .before .before .before .before .before .args .frame .now)) 1 12 (c .before .before .before .before .before .before .before .pre) 7 (lit≤ tt)))
-    (λ c κs. (search needs, each-finite (byteAt (c .before .before .before .before .before .before .before .before .args .frame .now)) 1 12 (c .before .before .before .before .before .before .before .before .pre) 8 (lit≤ tt)))
-    (λ c κs. (search needs, each-finite (byteAt (c .before .before .before .before .before .before .before .before .before .args .frame .now)) 1 12 (c .before .before .before .before .before .before .before .before .before .pre) 9 (lit≤ tt)))
-    (λ c κs. (search needs, each-finite (byteAt (c .before .before .before .before .before .before .before .before .before .before .args .frame .now)) 1 12 (c .before .before .before .before .before .before .before .before .before .before .pre) 10 (lit≤ tt)))
-    (λ c κs. (search needs, each-finite (byteAt (c .before .before .before .before .before .before .before .before .before .before .before .args .frame .now)) 1 12 (c .before .before .before .before .before .before .before .before .before .before .before .pre) 11 (lit≤ tt)))
+    (λ c κs. (
+      search needs,
+      each-finite (byteAt (c .before .before .args .frame .now)) 1 12 (c .before .before .pre) 2 (lit≤ tt),
+    ))
+    (λ c κs. (
+      search needs,
+      each-finite (byteAt (c .before .before .before .args .frame .now)) 1 12 (c .before .before .before .pre) 3
+          (lit≤ tt),
+    ))
+    (λ c κs. (
+      search needs,
+      each-finite (byteAt (c .before .before .before .before .args .frame .now)) 1 12
+          (c .before .before .before .before .pre) 4 (lit≤ tt),
+    ))
+    (λ c κs. (
+      search needs,
+      each-finite (byteAt (c .before .before .before .before .before .args .frame .now)) 1 12
+          (c .before .before .before .before .before .pre) 5 (lit≤ tt),
+    ))
+    (λ c κs. (
+      search needs,
+      each-finite (byteAt (c .before .before .before .before .before .before .args .frame .now)) 1 12
+          (c .before .before .before .before .before .before .pre) 6 (lit≤ tt),
+    ))
+    (λ c κs. (
+      search needs,
+      each-finite (byteAt (c .before .before .before .before .before .before .before .args .frame .now)) 1 12
+          (c .before .before .before .before .before .before .before .pre) 7 (lit≤ tt),
+    ))
+    (λ c κs. (
+      search needs,
+      each-finite (byteAt (c .before .before .before .before .before .before .before .before .args .frame .now)) 1 12
+          (c .before .before .before .before .before .before .before .before .pre) 8 (lit≤ tt),
+    ))
+    (λ c κs. (
+      search needs,
+      each-finite (byteAt (c .before .before .before .before .before .before .before .before .before .args .frame .now))
+          1 12 (c .before .before .before .before .before .before .before .before .before .pre) 9 (lit≤ tt),
+    ))
+    (λ c κs. (
+      search needs,
+      each-finite (byteAt
+          (c .before .before .before .before .before .before .before .before .before .before .args .frame .now)) 1 12
+          (c .before .before .before .before .before .before .before .before .before .before .pre) 10 (lit≤ tt),
+    ))
+    (λ c κs. (
+      search needs,
+      each-finite (byteAt
+          (c .before .before .before .before .before .before .before .before .before .before .before .args .frame .now))
+          1 12 (c .before .before .before .before .before .before .before .before .before .before .before .pre) 11
+          (lit≤ tt),
+    ))
     returns)
