@@ -35,9 +35,6 @@ sub-keep c = c .before .before .before .before .loop .inv .within
 part-keep-start : tie.Need-part-keep-start Inv-loop μ-loop
 part-keep-start c = c .before .before .before .before .loop .inv .within
 
-part-keep-end : tie.Need-part-keep-end Inv-loop μ-loop
-part-keep-end c = omega arith
-
 same-length : tie.Need-same-length Inv-loop μ-loop
 same-length c =
     let k = c .before .before in
@@ -127,6 +124,6 @@ pub stream-lines-spec : {M : Type 1} → statement M
 stream-lines-spec =
     tie.close
     (tie.spec Inv-loop μ-loop (λ c κs. search needs) loop-holds sub-loop (λ c κs. search needs) sub-keep
-    part-keep-start part-keep-end (λ c κs. search needs) same-length same-length-2 returns sub-end-line
+    part-keep-start (λ c. omega arith) (λ c κs. search needs) same-length same-length-2 returns sub-end-line
     part-end-line-start part-end-line-end end-line-requires add-at loop-less loop-again same-length-3 same-length-4
     returns-2)

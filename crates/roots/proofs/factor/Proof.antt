@@ -1,20 +1,7 @@
 -- `roots::factor` is `factorsOf`, branch by branch. Assumes nothing.
-use borrow.Author.Needs.{needs}
 use Rattle.roots.specs.Quartic.{factorsOf}
 use Rattle.roots.proofs.factor.Statement.{statement}
 use Rattle.roots.proofs.factor.Tie as tie
-
-small-requires : tie.Need-small-requires
-small-requires c κs = search needs
-
-small-requires-2 : tie.Need-small-requires-2
-small-requires-2 c κs = search needs
-
-sqrt-requires : tie.Need-sqrt-requires
-sqrt-requires c κs = search needs
-
-sqrt-requires-2 : tie.Need-sqrt-requires-2
-sqrt-requires-2 c κs = search needs
 
 returns : tie.Need-returns
 unfolding factorsOf
@@ -42,6 +29,4 @@ unfolding factorsOf
 returns-3 c = rw (← c .before .before .small .ensures, c .before .if1 .left, c .sqrt2 .ensures)
 
 pub factor-spec : {M : Type 1} → statement M
-factor-spec =
-    tie.close
-    (tie.spec small-requires small-requires-2 sqrt-requires sqrt-requires-2 returns returns-2 returns-3)
+factor-spec = tie.close (tie.spec (λ c κs. tt) (λ c κs. tt) (λ c κs. tt) (λ c κs. tt) returns returns-2 returns-3)

@@ -1,17 +1,10 @@
 -- `roots::insert0` is `insertOf` at no number held. Assumes nothing.
-use borrow.Author.Needs.{needs}
 use lib.Ieee.{le}
 use Rattle.float.specs.Ops.{#0}
 use Rattle.roots.specs.Set.{holds, insertOf}
 use Rattle.roots.proofs.Sets.{and-true}
 use Rattle.roots.proofs.insert0.Statement.{statement}
 use Rattle.roots.proofs.insert0.Tie as tie
-
-set1-requires : tie.Need-set1-requires
-set1-requires c κs = search needs
-
-set0-requires : tie.Need-set0-requires
-set0-requires c κs = search needs
 
 returns : tie.Need-returns
 unfolding insertOf holds
@@ -22,4 +15,4 @@ unfolding insertOf holds
 returns-2 c = rw (c .set0 .ensures, and-true (le #0 (c .before .before .args .value)), c .before .if1 .left)
 
 pub insert0-spec : {M : Type 1} → statement M
-insert0-spec = tie.close (tie.spec set1-requires set0-requires returns returns-2)
+insert0-spec = tie.close (tie.spec (λ c κs. tt) (λ c κs. tt) returns returns-2)

@@ -1,15 +1,8 @@
 -- `roots::insert2` is `insertOf` at two numbers held. Assumes nothing.
-use borrow.Author.Needs.{needs}
 use Rattle.roots.specs.Set.{holds, insertOf}
 use Rattle.roots.proofs.Sets.{or-false, and-true}
 use Rattle.roots.proofs.insert2.Statement.{statement}
 use Rattle.roots.proofs.insert2.Tie as tie
-
-set3-requires : tie.Need-set3-requires
-set3-requires c κs = search needs
-
-set2-requires : tie.Need-set2-requires
-set2-requires c κs = search needs
 
 returns : tie.Need-returns
 unfolding insertOf holds
@@ -20,4 +13,4 @@ unfolding insertOf holds
 returns-2 c = rw (c .set2 .ensures, or-false, and-true, c .before .if1 .left)
 
 pub insert2-spec : {M : Type 1} → statement M
-insert2-spec = tie.close (tie.spec set3-requires set2-requires returns returns-2)
+insert2-spec = tie.close (tie.spec (λ c κs. tt) (λ c κs. tt) returns returns-2)

@@ -1,15 +1,8 @@
 -- `roots::insert3` is `insertOf` at three numbers held. Assumes nothing.
-use borrow.Author.Needs.{needs}
 use Rattle.roots.specs.Set.{holds, insertOf}
 use Rattle.roots.proofs.Sets.{or-false, and-true}
 use Rattle.roots.proofs.insert3.Statement.{statement}
 use Rattle.roots.proofs.insert3.Tie as tie
-
-set4-requires : tie.Need-set4-requires
-set4-requires c κs = search needs
-
-set3-requires : tie.Need-set3-requires
-set3-requires c κs = search needs
 
 returns : tie.Need-returns
 unfolding insertOf holds
@@ -20,4 +13,4 @@ unfolding insertOf holds
 returns-2 c = rw (c .set3 .ensures, or-false, and-true, c .before .if1 .left)
 
 pub insert3-spec : {M : Type 1} → statement M
-insert3-spec = tie.close (tie.spec set4-requires set3-requires returns returns-2)
+insert3-spec = tie.close (tie.spec (λ c κs. tt) (λ c κs. tt) returns returns-2)

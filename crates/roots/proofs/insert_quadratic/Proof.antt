@@ -1,5 +1,4 @@
 -- `roots::insert_quadratic` offers `quadraticOf`, branch by branch. Assumes nothing.
-use borrow.Author.Needs.{needs}
 use lib.Ieee.{neg}
 use Rattle.float.specs.Ops.{_⊕_, _⊖_, _⊘_, #2}
 use Rattle.roots.specs.Set.{insertOf, insertAllOf}
@@ -7,21 +6,6 @@ use Rattle.roots.specs.Quartic.{quadraticOf}
 use Rattle.roots.proofs.Sets.{inserted, insert-length}
 use Rattle.roots.proofs.insert_quadratic.Statement.{statement}
 use Rattle.roots.proofs.insert_quadratic.Tie as tie
-
-abs-requires : tie.Need-abs-requires
-abs-requires c κs = search needs
-
-insert-requires : tie.Need-insert-requires
-insert-requires c κs = search needs
-
-sqrt-requires : tie.Need-sqrt-requires
-sqrt-requires c κs = search needs
-
-insert-requires-2 : tie.Need-insert-requires-2
-insert-requires-2 c κs = search needs
-
-insert-requires-3 : tie.Need-insert-requires-3
-insert-requires-3 c κs = search needs
 
 returns : tie.Need-returns
 unfolding quadraticOf insertAllOf
@@ -51,6 +35,4 @@ returns-3 c l h e = rw (← c .before .before .abs .ensures, c .before .if1 .lef
 
 pub insert-quadratic-spec : {M : Type 1} → statement M
 insert-quadratic-spec =
-    tie.close
-    (tie.spec abs-requires insert-requires sqrt-requires insert-requires-2 insert-requires-3 returns returns-2
-    returns-3)
+    tie.close (tie.spec (λ c κs. tt) (λ c κs. tt) (λ c κs. tt) (λ c κs. tt) (λ c κs. tt) returns returns-2 returns-3)

@@ -1,14 +1,7 @@
 -- `roots::into1` is `intoOf` at one number. Assumes nothing.
-use borrow.Author.Needs.{needs}
 use Rattle.roots.specs.Set.{intoOf}
 use Rattle.roots.proofs.into1.Statement.{statement}
 use Rattle.roots.proofs.into1.Tie as tie
-
-set2-requires : tie.Need-set2-requires
-set2-requires c κs = search needs
-
-set2-requires-2 : tie.Need-set2-requires-2
-set2-requires-2 c κs = search needs
 
 returns : tie.Need-returns
 unfolding intoOf
@@ -19,4 +12,4 @@ unfolding intoOf
 returns-2 c = rw (c .set22 .ensures, c .before .if1 .left)
 
 pub into1-spec : {M : Type 1} → statement M
-into1-spec = tie.close (tie.spec set2-requires set2-requires-2 returns returns-2)
+into1-spec = tie.close (tie.spec (λ c κs. tt) (λ c κs. tt) returns returns-2)

@@ -1,17 +1,7 @@
 -- `roots::into2` is `intoOf` at two numbers. Assumes nothing.
-use borrow.Author.Needs.{needs}
 use Rattle.roots.specs.Set.{intoOf}
 use Rattle.roots.proofs.into2.Statement.{statement}
 use Rattle.roots.proofs.into2.Tie as tie
-
-set3-requires : tie.Need-set3-requires
-set3-requires c κs = search needs
-
-set3-requires-2 : tie.Need-set3-requires-2
-set3-requires-2 c κs = search needs
-
-set3-requires-3 : tie.Need-set3-requires-3
-set3-requires-3 c κs = search needs
 
 returns : tie.Need-returns
 unfolding intoOf
@@ -26,4 +16,4 @@ unfolding intoOf
 returns-3 c = rw (c .set33 .ensures, c .before .if1 .left)
 
 pub into2-spec : {M : Type 1} → statement M
-into2-spec = tie.close (tie.spec set3-requires set3-requires-2 set3-requires-3 returns returns-2 returns-3)
+into2-spec = tie.close (tie.spec (λ c κs. tt) (λ c κs. tt) (λ c κs. tt) returns returns-2 returns-3)

@@ -1,20 +1,7 @@
 -- `roots::into3` is `intoOf` at three numbers. Assumes nothing.
-use borrow.Author.Needs.{needs}
 use Rattle.roots.specs.Set.{intoOf}
 use Rattle.roots.proofs.into3.Statement.{statement}
 use Rattle.roots.proofs.into3.Tie as tie
-
-set4-requires : tie.Need-set4-requires
-set4-requires c κs = search needs
-
-set4-requires-2 : tie.Need-set4-requires-2
-set4-requires-2 c κs = search needs
-
-set4-requires-3 : tie.Need-set4-requires-3
-set4-requires-3 c κs = search needs
-
-set4-requires-4 : tie.Need-set4-requires-4
-set4-requires-4 c κs = search needs
 
 returns : tie.Need-returns
 unfolding intoOf
@@ -36,5 +23,4 @@ returns-4 c = rw (c .set44 .ensures, c .before .if1 .left)
 
 pub into3-spec : {M : Type 1} → statement M
 into3-spec =
-    tie.close
-    (tie.spec set4-requires set4-requires-2 set4-requires-3 set4-requires-4 returns returns-2 returns-3 returns-4)
+    tie.close (tie.spec (λ c κs. tt) (λ c κs. tt) (λ c κs. tt) (λ c κs. tt) returns returns-2 returns-3 returns-4)

@@ -1,14 +1,7 @@
 -- `roots::quartic_need` is `needOf`, branch by branch. Assumes nothing.
-use borrow.Author.Needs.{needs}
 use Rattle.roots.specs.Quartic.{needOf}
 use Rattle.roots.proofs.quartic_need.Statement.{statement}
 use Rattle.roots.proofs.quartic_need.Tie as tie
-
-small-requires : tie.Need-small-requires
-small-requires c κs = search needs
-
-small-requires-2 : tie.Need-small-requires-2
-small-requires-2 c κs = search needs
 
 returns : tie.Need-returns
 unfolding needOf
@@ -19,12 +12,6 @@ returns c =
       c .before .before .if1 .taken,
       c .if2 .taken,
     )
-
-small-requires-3 : tie.Need-small-requires-3
-small-requires-3 c κs = search needs
-
-small-requires-4 : tie.Need-small-requires-4
-small-requires-4 c κs = search needs
 
 returns-2 : tie.Need-returns-2
 unfolding needOf
@@ -58,6 +45,4 @@ returns-4 c = rw (← c .before .small .ensures, c .if1 .left)
 
 pub quartic-need-spec : {M : Type 1} → statement M
 quartic-need-spec =
-    tie.close
-    (tie.spec small-requires small-requires-2 returns small-requires-3 small-requires-4 returns-2 returns-3
-    returns-4)
+    tie.close (tie.spec (λ c κs. tt) (λ c κs. tt) returns (λ c κs. tt) (λ c κs. tt) returns-2 returns-3 returns-4)

@@ -7,45 +7,6 @@ use Rattle.roots.proofs.Branches.{in-branch}
 use Rattle.roots.proofs.solve_quart_monic_coeffs.Statement.{statement}
 use Rattle.roots.proofs.solve_quart_monic_coeffs.Tie as tie
 
-quartic-need-requires : tie.Need-quartic-need-requires
-quartic-need-requires c κs = search needs
-
-enum-told : tie.Need-enum-told
-enum-told c = search needs
-
-solve-without-cd-requires : tie.Need-solve-without-cd-requires
-solve-without-cd-requires c κs = search needs
-
-enum-told-2 : tie.Need-enum-told-2
-enum-told-2 c = search needs
-
-enum-known-answer : tie.Need-enum-known-answer
-enum-known-answer c = search needs
-
-solve-with-cbrt-requires : tie.Need-solve-with-cbrt-requires
-solve-with-cbrt-requires c κs = search needs
-
-enum-told-3 : tie.Need-enum-told-3
-enum-told-3 c = search needs
-
-new-requires : tie.Need-new-requires
-new-requires c κs = search needs
-
-enum-told-4 : tie.Need-enum-told-4
-enum-told-4 c = search needs
-
-enum-told-5 : tie.Need-enum-told-5
-enum-told-5 c = search needs
-
-new-requires-2 : tie.Need-new-requires-2
-new-requires-2 c κs = search needs
-
-enum-known-answer-2 : tie.Need-enum-known-answer-2
-enum-known-answer-2 c = search needs
-
-solve-resolved-requires : tie.Need-solve-resolved-requires
-solve-resolved-requires c κs = search needs
-
 returns : tie.Need-returns
 unfolding offeredOf insertAllOf
 returns c =
@@ -91,6 +52,6 @@ returns-5 c =
 pub solve-quart-monic-coeffs-spec : {M : Type 1} → statement M
 solve-quart-monic-coeffs-spec =
     tie.close
-    (tie.spec quartic-need-requires enum-told solve-without-cd-requires enum-told-2 enum-known-answer
-    solve-with-cbrt-requires enum-told-3 new-requires enum-told-4 enum-told-5 new-requires-2 enum-known-answer-2
-    solve-resolved-requires returns returns-2 returns-3 returns-4 returns-5)
+    (tie.spec (λ c κs. tt) (λ c. search needs) (λ c κs. tt) (λ c. search needs) (λ c. search needs) (λ c κs. tt)
+    (λ c. search needs) (λ c κs. tt) (λ c. search needs) (λ c. search needs) (λ c κs. tt) (λ c. search needs)
+    (λ c κs. tt) returns returns-2 returns-3 returns-4 returns-5)

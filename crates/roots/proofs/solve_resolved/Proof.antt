@@ -1,5 +1,4 @@
 -- `roots::solve_resolved` offers what the two factors do. Assumes nothing.
-use borrow.Author.Needs.{needs}
 use Prim.Native.Nat.{zero-le}
 use mathlib.Core.Path.{sym, ap, _∙_}
 use mathlib.Core.List.{[]}
@@ -10,21 +9,6 @@ use Rattle.roots.proofs.Sets.{insertAll-length, insertAll-append}
 use Rattle.roots.proofs.Branches.{by-factors}
 use Rattle.roots.proofs.solve_resolved.Statement.{statement}
 use Rattle.roots.proofs.solve_resolved.Tie as tie
-
-chosen-requires : tie.Need-chosen-requires
-chosen-requires c κs = search needs
-
-factor-requires : tie.Need-factor-requires
-factor-requires c κs = search needs
-
-new-requires : tie.Need-new-requires
-new-requires c κs = search needs
-
-insert-quadratic-requires : tie.Need-insert-quadratic-requires
-insert-quadratic-requires c κs = search needs
-
-insert-quadratic-requires-2 : tie.Need-insert-quadratic-requires-2
-insert-quadratic-requires-2 c κs = search needs
 
 returns : tie.Need-returns
 returns c =
@@ -40,7 +24,4 @@ returns c =
     (c .before .before .before .before .chosen .ensures) (c .before .before .before .factor .ensures))
 
 pub solve-resolved-spec : {M : Type 1} → statement M
-solve-resolved-spec =
-    tie.close
-    (tie.spec chosen-requires factor-requires new-requires insert-quadratic-requires insert-quadratic-requires-2
-    returns)
+solve-resolved-spec = tie.close (tie.spec (λ c κs. tt) (λ c κs. tt) (λ c κs. tt) (λ c κs. tt) (λ c κs. tt) returns)

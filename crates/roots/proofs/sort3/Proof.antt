@@ -6,18 +6,6 @@ use Rattle.roots.proofs.Sets.{two, sorted-cons, sorted-pair, sorted-len
 use Rattle.roots.proofs.sort3.Statement.{statement}
 use Rattle.roots.proofs.sort3.Tie as tie
 
-into1-requires : tie.Need-into1-requires
-into1-requires c κs = search needs
-
-element-copy-out-into2 : tie.Need-element-copy-out-into2
-element-copy-out-into2 c = search needs
-
-element-copy-out-into2-2 : tie.Need-element-copy-out-into2-2
-element-copy-out-into2-2 c = search needs
-
-into2-requires : tie.Need-into2-requires
-into2-requires c κs = search needs
-
 returns : tie.Need-returns
 returns c =
     let a = c .before .before .before .before .args in
@@ -31,6 +19,4 @@ returns c =
     )
 
 pub sort3-spec : {M : Type 1} → statement M
-sort3-spec =
-    tie.close
-    (tie.spec into1-requires element-copy-out-into2 element-copy-out-into2-2 into2-requires returns)
+sort3-spec = tie.close (tie.spec (λ c κs. tt) (λ c. search needs) (λ c. search needs) (λ c κs. tt) returns)

@@ -15,12 +15,6 @@ Inv-loop input from i₀ i = i + lineLength (drop i input) ≡ from + lineLength
 abbrev μ-loop : tie.MeasureT-loop
 μ-loop input from i₀ i = length input - i
 
-no-feed-32-requires : tie.Need-no-feed-32-requires Inv-loop μ-loop
-no-feed-32-requires c κs = omega arith
-
-no-feed-requires : tie.Need-no-feed-requires Inv-loop μ-loop
-no-feed-requires c κs = omega arith
-
 loop-again : tie.Need-loop-again Inv-loop μ-loop
 loop-again c =
     let f = c .before in
@@ -55,6 +49,6 @@ returns-2 c =
 pub find-spec : {M : Type 1} → statement M
 find-spec =
     tie.close
-    (tie.spec Inv-loop μ-loop (λ c. refl) (λ c. omega arith) no-feed-32-requires (λ c. omega arith)
-    (λ c. omega arith) loop-again (λ c. omega arith) no-feed-requires (λ c. omega arith) (λ c. omega arith)
+    (tie.spec Inv-loop μ-loop (λ c. refl) (λ c. omega arith) (λ c κs. omega arith) (λ c. omega arith)
+    (λ c. omega arith) loop-again (λ c. omega arith) (λ c κs. omega arith) (λ c. omega arith) (λ c. omega arith)
     loop-again-2 (λ c. omega arith) returns (λ c. omega arith) (λ c. omega arith) loop-again-3 returns-2)

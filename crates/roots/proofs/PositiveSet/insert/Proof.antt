@@ -9,33 +9,6 @@ use Rattle.roots.proofs.PositiveSet.insert.Tie as tie
 four : (c : tie.Start) → length (c .args .t1 .«data») ≡ 4
 four c = simp length-map at (c .good .0 .1 .1 .0 .1 .0 .1)
 
-element-copy-out-x0 : tie.Need-element-copy-out-x0
-element-copy-out-x0 c = search needs
-
-element-copy-out-x1 : tie.Need-element-copy-out-x1
-element-copy-out-x1 c = search needs
-
-element-copy-out-x2 : tie.Need-element-copy-out-x2
-element-copy-out-x2 c = search needs
-
-element-copy-out-x3 : tie.Need-element-copy-out-x3
-element-copy-out-x3 c = search needs
-
-insert0-requires : tie.Need-insert0-requires
-insert0-requires c κs = search needs
-
-insert1-requires : tie.Need-insert1-requires
-insert1-requires c κs = search needs
-
-insert2-requires : tie.Need-insert2-requires
-insert2-requires c κs = search needs
-
-insert3-requires : tie.Need-insert3-requires
-insert3-requires c κs = search needs
-
-set4-requires : tie.Need-set4-requires
-set4-requires c κs = search needs
-
 returns : tie.Need-returns
 returns c =
     let s = c .before .before .before .before .before .before in
@@ -69,6 +42,5 @@ returns-5 c =
 pub insert-spec : {M : Type 1} → statement M
 insert-spec =
     tie.close
-    (tie.spec element-copy-out-x0 element-copy-out-x1 element-copy-out-x2 element-copy-out-x3 insert0-requires
-    insert1-requires insert2-requires insert3-requires set4-requires returns returns-2 returns-3 returns-4
-    returns-5)
+    (tie.spec (λ c. search needs) (λ c. search needs) (λ c. search needs) (λ c. search needs) (λ c κs. tt)
+    (λ c κs. tt) (λ c κs. tt) (λ c κs. tt) (λ c κs. tt) returns returns-2 returns-3 returns-4 returns-5)

@@ -10,33 +10,6 @@ use Rattle.roots.proofs.PositiveSet.sorted.Tie as tie
 four : (c : tie.Start) → length (c .args .t1 .«data») ≡ 4
 four c = simp length-map at (c .good .0 .1 .1 .0 .1 .0 .1)
 
-element-copy-out-x0 : tie.Need-element-copy-out-x0
-element-copy-out-x0 c = search needs
-
-element-copy-out-x1 : tie.Need-element-copy-out-x1
-element-copy-out-x1 c = search needs
-
-element-copy-out-x2 : tie.Need-element-copy-out-x2
-element-copy-out-x2 c = search needs
-
-element-copy-out-x3 : tie.Need-element-copy-out-x3
-element-copy-out-x3 c = search needs
-
-set0-requires : tie.Need-set0-requires
-set0-requires c κs = search needs
-
-set1-requires : tie.Need-set1-requires
-set1-requires c κs = search needs
-
-into1-requires : tie.Need-into1-requires
-into1-requires c κs = search needs
-
-sort3-requires : tie.Need-sort3-requires
-sort3-requires c κs = search needs
-
-sort4-requires : tie.Need-sort4-requires
-sort4-requires c κs = search needs
-
 returns : tie.Need-returns
 unfolding sortedOf
 returns c =
@@ -72,5 +45,5 @@ returns-5 c =
 pub sorted-spec : {M : Type 1} → statement M
 sorted-spec =
     tie.close
-    (tie.spec element-copy-out-x0 element-copy-out-x1 element-copy-out-x2 element-copy-out-x3 set0-requires
-    set1-requires into1-requires sort3-requires sort4-requires returns returns-2 returns-3 returns-4 returns-5)
+    (tie.spec (λ c. search needs) (λ c. search needs) (λ c. search needs) (λ c. search needs) (λ c κs. tt)
+    (λ c κs. tt) (λ c κs. tt) (λ c κs. tt) (λ c κs. tt) returns returns-2 returns-3 returns-4 returns-5)

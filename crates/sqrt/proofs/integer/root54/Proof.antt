@@ -52,9 +52,6 @@ module _ (h e c t : ℕ) (H : Halves h e c t) where
 root27-requires : tie.Need-root27-requires
 root27-requires c κs = c .pre
 
-mul-n : tie.Need-mul-n
-mul-n c = search needs
-
 sub-n : tie.Need-sub-n
 sub-n c = c .root27 .ensures .under
 
@@ -97,5 +94,5 @@ returns-2 c = kept _ _ _ _ _ (whole (c .before)) (parts (c .before)) (c .if1 .le
 pub root54-spec : {M : Type 1} → statement M
 root54-spec =
     tie.close
-    (tie.spec root27-requires mul-n sub-n mul-n-2 mul-c div-c mul-t rem-t mul-r add-r mul-if1 mul-if1-2 sub-result
-    returns returns-2)
+    (tie.spec root27-requires (λ c. search needs) sub-n mul-n-2 mul-c div-c mul-t rem-t mul-r add-r mul-if1 mul-if1-2
+    sub-result returns returns-2)

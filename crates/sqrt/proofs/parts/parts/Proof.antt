@@ -3,11 +3,5 @@ use borrow.Author.Needs.{needs}
 use Rattle.sqrt.proofs.parts.parts.Statement.{statement}
 use Rattle.sqrt.proofs.parts.parts.Tie as tie
 
-returns : tie.Need-returns
-returns c = search needs
-
-returns-2 : tie.Need-returns-2
-returns-2 c = search needs
-
 pub parts-spec : {M : Type 1} → statement M
-parts-spec = tie.close (tie.spec (λ c. search needs) (λ c. search needs) returns returns-2)
+parts-spec = tie.close (tie.spec (λ c. search needs) (λ c. search needs) (λ c. search needs) (λ c. search needs))

@@ -11,9 +11,6 @@ positive : (c : tie.After-parts) → 0 < c .parts .result .m
 positive c = parts-pos (c .before .args .bits) (c .parts .result .m) (c .parts .result .k) (c .parts .ensures)
     (c .before .pre .0)
 
-parts-requires : tie.Need-parts-requires
-parts-requires c κs = search needs
-
 sub-s : tie.Need-sub-s
 sub-s c = many-zeros (c .before .parts .result .m) (positive (c .before)) (c .before .parts .ensures .few)
 
@@ -23,20 +20,11 @@ cast-q c = omega (arith, leading-le 64 (c .before .parts .result .m))
 shl-q : tie.Need-shl-q
 shl-q c = omega (arith, leading-le 64 (c .before .before .parts .result .m))
 
-add-e : tie.Need-add-e
-add-e c = search needs
-
 cast-e : tie.Need-cast-e
 cast-e c = omega (arith, leading-le 64 (c .before .before .before .parts .result .m))
 
 sub-e : tie.Need-sub-e
 sub-e c = omega (arith, leading-le 64 (c .before .before .before .parts .result .m))
-
-shl-a : tie.Need-shl-a
-shl-a c = search needs
-
-mul-result : tie.Need-mul-result
-mul-result c = search needs
 
 root54-requires : tie.Need-root54-requires
 root54-requires c κs =
@@ -52,9 +40,6 @@ add-result c =
           (shifted-radicand (at .parts .result .m) _ (positive at) (at .parts .ensures .few)) (c .root54 .ensures),
     )
 
-add-result-2 : tie.Need-add-result-2
-add-result-2 c = search needs
-
 returns : tie.Need-returns
 returns c =
     let at = c .before .before .before .before in
@@ -64,5 +49,5 @@ returns c =
 pub root-bits-spec : {M : Type 1} → statement M
 root-bits-spec =
     tie.close
-    (tie.spec parts-requires sub-s cast-q shl-q add-e cast-e sub-e shl-a mul-result root54-requires add-result
-    add-result-2 returns)
+    (tie.spec (λ c κs. tt) sub-s cast-q shl-q (λ c. search needs) cast-e sub-e (λ c. search needs)
+    (λ c. search needs) root54-requires add-result (λ c. search needs) returns)

@@ -1,18 +1,11 @@
 -- `time_acc0_acc1::rest_applies` is `acc0Acc1RestApplies`: the same operations on what its calls give. Assumes nothing.
-use borrow.Author.Needs.{needs}
 use Rattle.step2_solver.specs.TimeAcc0Acc1.{acc0Acc1RestApplies}
 use Rattle.step2_solver.proofs.time_acc0_acc1.rest_applies.Statement.{statement}
 use Rattle.step2_solver.proofs.time_acc0_acc1.rest_applies.Tie as tie
-
-abs-requires : tie.Need-abs-requires
-abs-requires c κs = search needs
-
-abs-requires-2 : tie.Need-abs-requires-2
-abs-requires-2 c κs = search needs
 
 returns : tie.Need-returns
 unfolding acc0Acc1RestApplies
 returns c = rw (c .abs2 .ensures, c .before .abs .ensures)
 
 pub rest-applies-spec : {M : Type 1} → statement M
-rest-applies-spec = tie.close (tie.spec abs-requires abs-requires-2 returns)
+rest-applies-spec = tie.close (tie.spec (λ c κs. tt) (λ c κs. tt) returns)

@@ -1,15 +1,11 @@
 -- `time_acc0_vel::uddu_t_max` is `acc0VelUdduTMax`: the same operations on what its calls give. Assumes nothing.
-use borrow.Author.Needs.{needs}
 use Rattle.step2_solver_quartic.specs.TimeAcc0Vel.{acc0VelUdduTMax}
 use Rattle.step2_solver_quartic.proofs.time_acc0_vel.uddu_t_max.Statement.{statement}
 use Rattle.step2_solver_quartic.proofs.time_acc0_vel.uddu_t_max.Tie as tie
-
-min-requires : tie.Need-min-requires
-min-requires c κs = search needs
 
 returns : tie.Need-returns
 unfolding acc0VelUdduTMax
 returns c = rw (c .min .ensures)
 
 pub uddu-t-max-spec : {M : Type 1} → statement M
-uddu-t-max-spec = tie.close (tie.spec min-requires returns)
+uddu-t-max-spec = tie.close (tie.spec (λ c κs. tt) returns)

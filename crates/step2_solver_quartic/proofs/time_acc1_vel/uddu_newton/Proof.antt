@@ -1,17 +1,7 @@
 -- `time_acc1_vel::uddu_newton` is `acc1VelUdduNewton`: the same operations on what its calls give. Assumes nothing.
-use borrow.Author.Needs.{needs}
 use Rattle.step2_solver_quartic.specs.TimeAcc1Vel.{acc1VelUdduNewton}
 use Rattle.step2_solver_quartic.proofs.time_acc1_vel.uddu_newton.Statement.{statement}
 use Rattle.step2_solver_quartic.proofs.time_acc1_vel.uddu_newton.Tie as tie
-
-abs-requires : tie.Need-abs-requires
-abs-requires c κs = search needs
-
-uddu-orig-requires : tie.Need-uddu-orig-requires
-uddu-orig-requires c κs = search needs
-
-uddu-deriv-requires : tie.Need-uddu-deriv-requires
-uddu-deriv-requires c κs = search needs
 
 returns : tie.Need-returns
 unfolding acc1VelUdduNewton
@@ -24,4 +14,4 @@ unfolding acc1VelUdduNewton
 returns-2 c = rw (← c .before .abs .ensures, c .if1 .left)
 
 pub uddu-newton-spec : {M : Type 1} → statement M
-uddu-newton-spec = tie.close (tie.spec abs-requires uddu-orig-requires uddu-deriv-requires returns returns-2)
+uddu-newton-spec = tie.close (tie.spec (λ c κs. tt) (λ c κs. tt) (λ c κs. tt) returns returns-2)

@@ -1,15 +1,11 @@
 -- `time_acc1_vel::udud_t_max` is `acc1VelUdudTMax`: the same operations on what its calls give. Assumes nothing.
-use borrow.Author.Needs.{needs}
 use Rattle.step2_solver_quartic.specs.TimeAcc1Vel.{acc1VelUdudTMax}
 use Rattle.step2_solver_quartic.proofs.time_acc1_vel.udud_t_max.Statement.{statement}
 use Rattle.step2_solver_quartic.proofs.time_acc1_vel.udud_t_max.Tie as tie
-
-min-requires : tie.Need-min-requires
-min-requires c κs = search needs
 
 returns : tie.Need-returns
 unfolding acc1VelUdudTMax
 returns c = rw (c .min .ensures)
 
 pub udud-t-max-spec : {M : Type 1} → statement M
-udud-t-max-spec = tie.close (tie.spec min-requires returns)
+udud-t-max-spec = tie.close (tie.spec (λ c κs. tt) returns)
