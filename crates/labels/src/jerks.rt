@@ -56,8 +56,8 @@ fn jerk(s: Sign, t: f64, jf: f64) -> f64
     pick(t > 0.0, signed(s, jf), 0.0)
 }
 
-pub fn jerks(control_signs: ControlSigns, t: &[f64; 7], jf: f64, j: &mut [f64; 7])
-    ensures { λ _. ⌜ now (j .exit) ≡ jerksOf «control_signs» (now (t .entry)) jf ⌝ }
+pub fn jerks(control_signs: ControlSigns, t: [f64; 7], jf: f64) -> [f64; 7]
+    ensures { λ r. ⌜ r ≡ jerksOf «control_signs» t jf ⌝ }
 {
     let row = pattern(control_signs);
     let s0 = row[0];
@@ -67,7 +67,7 @@ pub fn jerks(control_signs: ControlSigns, t: &[f64; 7], jf: f64, j: &mut [f64; 7
     let s4 = row[4];
     let s5 = row[5];
     let s6 = row[6];
-    *j = [
+    [
         jerk(s0, t[0], jf),
         jerk(s1, t[1], jf),
         jerk(s2, t[2], jf),
@@ -75,5 +75,5 @@ pub fn jerks(control_signs: ControlSigns, t: &[f64; 7], jf: f64, j: &mut [f64; 7
         jerk(s4, t[4], jf),
         jerk(s5, t[5], jf),
         jerk(s6, t[6], jf),
-    ];
+    ]
 }

@@ -6,17 +6,12 @@ use lib.Dec.{eqb, ltb}
 use lib.ListN.{getD, set}
 use lib.Ieee.{Float, nan, lt, neg}
 use Rattle.float.specs.Ops.{_⊖_, _⊗_, _⊘_, #0, #2, #ε}
+use Rattle.row.specs.Row.{Nodes}
 use Rattle.util.specs.Integrate.{integrateOf}
 use Rattle.labels.specs.declared.tests.Tests.{Tests}
 use Rattle.phases.specs.declared.limit.Band.{Band}
 use Rattle.phases.specs.declared.phase.Next.{Next}
 use Rattle.phases.specs.Run.{Step}
-
--- the recorded accelerations, velocities and positions, eight each: entry i is where phase i begins
-pub record Nodes : Type 0 where
-  pub a : List Float
-  pub v : List Float
-  pub p : List Float
 
 -- What the label puts in the place of the acceleration x after phase i: 0 for a[3]; then, where set_limits is on,
 -- a_min for a[3], or a_max for a[1] and a_min for a[5].

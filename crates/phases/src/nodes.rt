@@ -2,42 +2,45 @@
 use super::limit::Band;
 use super::phase::phase;
 use labels::tests::Tests;
+use row::A;
+use row::J;
+use row::NUMBERS;
+use row::P;
+use row::V;
+use row::whole;
 ghost use mathlib.Core.Path.{_≡_};
-ghost use lib.ListN.{length};
-ghost use Rattle.phases.specs.Run.{Step, run};
-ghost use Rattle.phases.specs.Phase.{Nodes, phaseOf};
+ghost use Rattle.phases.specs.Run.{Step};
+ghost use Rattle.row.specs.Row.{numbersIn};
+ghost use Rattle.phases.specs.Moved.{movedOf};
 
-// Arrays of eight are eight long. It is called for that, and no code is left of it.
-fn eight_each(a: [f64; 8], v: [f64; 8], p: [f64; 8])
-    ensures { λ _. ⌜ (length a ≡ 8) × (length v ≡ 8) × (length p ≡ 8) ⌝ }
-{}
+// Where the node after phase 0 stands.
+const A1: usize = A + 1;
 
-// Where a phase begins is kept in numbers: read back from the lent arrays it would cost a store and a load each.
+const V1: usize = V + 1;
+
+const P1: usize = P + 1;
+
+// Where a phase begins is kept in numbers: read back from the row it would cost a store and a load each.
 pub fn nodes(
-    t: &[f64; 7],
-    j: &[f64; 7],
-    a: &mut [f64; 8],
-    v: &mut [f64; 8],
-    p: &mut [f64; 8],
+    x: &mut [f64; NUMBERS],
     tests: Tests,
     set_limits: bool,
     a_max: f64,
     a_min: f64,
     band: Band,
 ) -> bool
-    ensures { λ r. ⌜ record { ok = r; left = record { a = now (a .exit); v = now (v .exit); p = now (p .exit) } }
-        ≡ run (phaseOf tests «set_limits» «a_max» «a_min» band (now (t .entry)) (now (j .entry))) 7 0
-        (record { a = now (a .entry); v = now (v .entry); p = now (p .entry) }) ⌝ }
+    ensures { λ r. ⌜ record { ok = r; left = numbersIn (now (x .exit)) }
+        ≡ movedOf tests «set_limits» «a_max» «a_min» band (numbersIn (now (x .entry))) ⌝ }
 {
-    eight_each(*a, *v, *p);
-    let mut p0 = p[0];
-    let mut v0 = v[0];
-    let mut a0 = a[0];
+    whole(*x);
+    let mut p0 = x[P];
+    let mut v0 = x[V];
+    let mut a0 = x[A];
     for i in 0..7 {
         let next = phase(
             i,
-            t[i],
-            j[i],
+            x[i],
+            x[J + i],
             p0,
             v0,
             a0,
@@ -50,9 +53,9 @@ pub fn nodes(
         p0 = next.p;
         v0 = next.v;
         a0 = next.a;
-        p[i + 1] = p0;
-        v[i + 1] = v0;
-        a[i + 1] = a0;
+        x[P1 + i] = p0;
+        x[V1 + i] = v0;
+        x[A1 + i] = a0;
         if !next.ok {
             return false;
         }

@@ -1,36 +1,44 @@
 // The phase times: none below 0, their running sums, and the tests of the label.
 use labels::tests::Tests;
+use row::NUMBERS;
+use row::T_SUM;
 ghost use mathlib.Core.Path.{_≡_};
 ghost use Rattle.phases.specs.Run.{Step};
-ghost use Rattle.phases.specs.Times.{sumsOf, refusedOf};
+ghost use Rattle.phases.specs.Times.{refusedOf};
+ghost use Rattle.row.specs.Row.{numbersIn};
+ghost use Rattle.phases.specs.Moved.{summedOf};
 
 const EPSILON: f64 = 2.220446049250313e-16;
 
 const T_MAX: f64 = 1e12;
 
-pub fn sums(t: &[f64; 7], t_sum: &mut [f64; 7]) -> bool
-    ensures { λ r. ⌜ record { ok = r; left = now («t_sum» .exit) } ≡ sumsOf (now (t .entry)) (now («t_sum» .entry)) ⌝ }
+const T_SUM1: usize = T_SUM + 1;
+
+const TOTAL: usize = T_SUM + 6;
+
+pub fn sums(x: &mut [f64; NUMBERS]) -> bool
+    ensures { λ r. ⌜ record { ok = r; left = numbersIn (now (x .exit)) } ≡ summedOf (numbersIn (now (x .entry))) ⌝ }
 {
-    let first = t[0];
+    let first = x[0];
     if first < 0.0 {
         return false;
     }
-    t_sum[0] = first;
+    x[T_SUM] = first;
     for i in 0..6 {
-        let next = t[i + 1];
+        let next = x[i + 1];
         if next < 0.0 {
             return false;
         }
-        t_sum[i + 1] = t_sum[i] + next;
+        x[T_SUM1 + i] = x[T_SUM + i] + next;
     }
     true
 }
 
-pub fn refused(tests: Tests, t: &[f64; 7], t_sum: &[f64; 7]) -> bool
-    ensures { λ r. ⌜ r ≡ refusedOf tests (now (t .entry)) (now («t_sum» .entry)) ⌝ }
+pub fn refused(tests: Tests, x: &[f64; NUMBERS]) -> bool
+    ensures { λ r. ⌜ r ≡ refusedOf tests (numbersIn (now (x .entry)) .t) (numbersIn (now (x .entry)) .«t_sum») ⌝ }
 {
-    (tests.t3 & (t[3] < EPSILON))
-        | (tests.t1 & (t[1] < EPSILON))
-        | (tests.t5 & (t[5] < EPSILON))
-        | (t_sum[6] > T_MAX)
+    (tests.t3 & (x[3] < EPSILON))
+        | (tests.t1 & (x[1] < EPSILON))
+        | (tests.t5 & (x[5] < EPSILON))
+        | (x[TOTAL] > T_MAX)
 }

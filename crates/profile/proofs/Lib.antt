@@ -1,2 +1,3 @@
--- The ways out of `check`.
+-- The ways out of `check`, and a part of a row read.
 pub mod Ways
+mod Gets

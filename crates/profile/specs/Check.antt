@@ -10,15 +10,15 @@ use Rattle.labels.specs.declared.ControlSigns.{ControlSigns}
 use Rattle.labels.specs.Labels.{labels}
 use Rattle.labels.specs.Tests.{testsOf}
 use Rattle.labels.specs.Jerks.{jerksOf}
+use Rattle.row.specs.Row.{Nodes, Goal, withSums, withJerks, withNodes}
 use Rattle.phases.specs.declared.limit.Band.{Band}
 use Rattle.phases.specs.Run.{Step, run}
 use Rattle.phases.specs.Times.{sumsOf, refusedOf}
 use Rattle.phases.specs.Limit.{directionOf, bandOf}
-use Rattle.phases.specs.Phase.{Nodes, phaseOf}
+use Rattle.phases.specs.Phase.{phaseOf}
 use Rattle.profile.specs.declared.Profile.{Profile}
 use Rattle.profile.specs.declared.Checked.{Checked}
-use Rattle.profile.specs.declared.in_place.Goal.{Goal}
-use Rattle.profile.specs.Parts.{nodesOf, goalOf, withSums, withJerks, withNodes, withLabels}
+use Rattle.profile.specs.Parts.{profileOf, numbersOf, labelsOf}
 
 -- the end is the goal within P_PRECISION, V_PRECISION and A_PRECISION
 unfoldable pub arrivedOf : Nodes → Goal → Bool
@@ -47,19 +47,21 @@ keptOf n a-band v-band =
 unfoldable pub checkOf :
     ControlSigns → ReachedLimits → Bool → Float → Float → Float → Float → Float → Profile → Checked
 checkOf signs limits set-limits jf v-max v-min a-max a-min q =
-    let sums = sumsOf (q .t) (q .«t_sum») in
+    let n = numbersOf q in
+    let sums = sumsOf (n .t) (n .«t_sum») in
     let tests = testsOf limits in
-    let j = jerksOf signs (q .t) jf in
+    let j = jerksOf signs (n .t) jf in
     let way = directionOf v-max in
     let v-band = bandOf v-max v-max v-min in
     let a-band = bandOf v-max a-max a-min in
-    let nodes = run (phaseOf tests set-limits a-max a-min v-band (q .t) j) 7 0 (nodesOf q) in
-    let summed = withSums (sums .left) q in
+    let nodes = run (phaseOf tests set-limits a-max a-min v-band (n .t) j) 7 0 (n .nodes) in
+    let summed = withSums (sums .left) n in
     let moved = withNodes (nodes .left) (withJerks j summed) in
-    cond (not (sums .ok) || refusedOf tests (q .t) (sums .left)) (record { ok = false; profile = summed })
+    cond (not (sums .ok) || refusedOf tests (n .t) (sums .left))
+    (record { ok = false; profile = profileOf summed (labelsOf q) })
     (cond (nodes .ok)
     (record {
-      ok = arrivedOf (nodes .left) (goalOf q) && keptOf (nodes .left) a-band v-band;
-      profile = withLabels (labels limits way signs) moved;
+      ok = arrivedOf (nodes .left) (n .goal) && keptOf (nodes .left) a-band v-band;
+      profile = profileOf moved (labels limits way signs);
     })
-    (record { ok = false; profile = withLabels (labels (q .limits) way (q .«control_signs»)) moved }))
+    (record { ok = false; profile = profileOf moved (labels (q .limits) way (q .«control_signs»)) }))

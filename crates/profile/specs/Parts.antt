@@ -1,24 +1,25 @@
--- A profile by its parts, and with one part changed: the one place that spells out its fields. Definitions only.
+-- A profile by its numbers and labels: the one place that spells out its fields. Definitions only.
 use mathlib.Core.List.{List}
 use lib.Ieee.{Float}
 use Rattle.labels.specs.declared.Labels.{Labels}
 use Rattle.labels.specs.Labels.{labels}
-use Rattle.phases.specs.Phase.{Nodes}
+use Rattle.row.specs.Row.{Nodes, Goal, Numbers, numbersIn}
 use Rattle.profile.specs.declared.Profile.{Profile}
-use Rattle.profile.specs.declared.in_place.Goal.{Goal}
+use Rattle.profile.specs.declared.Checked.{Checked}
+use Rattle.profile.specs.declared.in_place.Verdict.{Verdict}
 
-abbrev pub profileOf : List Float → List Float → List Float → Nodes → Goal → Labels → Profile
-profileOf t t-sum j n g l =
+abbrev pub profileOf : Numbers → Labels → Profile
+profileOf n l =
     record {
-      t = t;
-      «t_sum» = t-sum;
-      j = j;
-      a = n .a;
-      v = n .v;
-      p = n .p;
-      pf = g .pf;
-      vf = g .vf;
-      af = g .af;
+      t = n .t;
+      «t_sum» = n .«t_sum»;
+      j = n .j;
+      a = n .nodes .a;
+      v = n .nodes .v;
+      p = n .nodes .p;
+      pf = n .goal .pf;
+      vf = n .goal .vf;
+      af = n .goal .af;
       limits = l .limits;
       direction = l .direction;
       «control_signs» = l .«control_signs»;
@@ -30,23 +31,19 @@ nodesOf q = record { a = q .a; v = q .v; p = q .p }
 abbrev pub goalOf : Profile → Goal
 goalOf q = record { pf = q .pf; vf = q .vf; af = q .af }
 
+abbrev pub numbersOf : Profile → Numbers
+numbersOf q = record { t = q .t; «t_sum» = q .«t_sum»; j = q .j; nodes = nodesOf q; goal = goalOf q }
+
 abbrev pub labelsOf : Profile → Labels
 labelsOf q = labels (q .limits) (q .direction) (q .«control_signs»)
 
-abbrev pub withTimes : List Float → Profile → Profile
-withTimes t q = profileOf t (q .«t_sum») (q .j) (nodesOf q) (goalOf q) (labelsOf q)
+-- a profile with its numbers changed
+abbrev pub changed : (Numbers → Numbers) → Profile → Profile
+changed f q = profileOf (f (numbersOf q)) (labelsOf q)
 
-abbrev pub withSums : List Float → Profile → Profile
-withSums t-sum q = profileOf (q .t) t-sum (q .j) (nodesOf q) (goalOf q) (labelsOf q)
+-- the profile whose numbers stand in a row, and a verdict with the row that it leaves
+unfoldable pub profileIn : List Float → Labels → Profile
+profileIn x l = profileOf (numbersIn x) l
 
-abbrev pub withJerks : List Float → Profile → Profile
-withJerks j q = profileOf (q .t) (q .«t_sum») j (nodesOf q) (goalOf q) (labelsOf q)
-
-abbrev pub withNodes : Nodes → Profile → Profile
-withNodes n q = profileOf (q .t) (q .«t_sum») (q .j) n (goalOf q) (labelsOf q)
-
-abbrev pub withGoal : Goal → Profile → Profile
-withGoal g q = profileOf (q .t) (q .«t_sum») (q .j) (nodesOf q) g (labelsOf q)
-
-abbrev pub withLabels : Labels → Profile → Profile
-withLabels l q = profileOf (q .t) (q .«t_sum») (q .j) (nodesOf q) (goalOf q) l
+abbrev pub checkedIn : List Float → Verdict → Checked
+checkedIn x r = record { ok = r .ok; profile = profileIn x (r .labels) }

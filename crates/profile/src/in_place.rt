@@ -1,4 +1,4 @@
-// `check` in place.
+// `check` in place: over a profile's numbers in one lent row.
 use float::near;
 use labels::ControlSigns;
 use labels::Labels;
@@ -11,9 +11,18 @@ use phases::limit::widened;
 use phases::nodes::nodes;
 use phases::times::refused;
 use phases::times::sums;
+use row::A;
+use row::AF;
+use row::NUMBERS;
+use row::P;
+use row::PF;
+use row::V;
+use row::VF;
+use row::set_jerks;
+use row::times;
 ghost use mathlib.Core.Path.{_≡_};
-ghost use Rattle.phases.specs.Phase.{Nodes};
-ghost use Rattle.profile.specs.Parts.{profileOf};
+ghost use Rattle.row.specs.Row.{numbersIn};
+ghost use Rattle.profile.specs.Parts.{profileIn, checkedIn};
 ghost use Rattle.profile.specs.Check.{arrivedOf, withinOf, keptOf, checkOf};
 
 const P_PRECISION: f64 = 1e-8;
@@ -22,11 +31,26 @@ const V_PRECISION: f64 = 1e-8;
 
 const A_PRECISION: f64 = 1e-10;
 
-pub struct Goal {
-    pub pf: f64,
-    pub vf: f64,
-    pub af: f64,
-}
+// Places of a row that `check` looks at: a[1] is A1.
+const A1: usize = A + 1;
+
+const A3: usize = A + 3;
+
+const A5: usize = A + 5;
+
+const A7: usize = A + 7;
+
+const V3: usize = V + 3;
+
+const V4: usize = V + 4;
+
+const V5: usize = V + 5;
+
+const V6: usize = V + 6;
+
+const V7: usize = V + 7;
+
+const P7: usize = P + 7;
 
 pub struct Verdict {
     pub ok: bool,
@@ -39,35 +63,28 @@ fn within(x: f64, band: Band) -> bool
     (x >= band.low) & (x <= band.upp)
 }
 
-fn arrived(a: &[f64; 8], v: &[f64; 8], p: &[f64; 8], goal: Goal) -> bool
-    ensures { λ r. ⌜ r ≡ arrivedOf (record { a = now (a .entry); v = now (v .entry); p = now (p .entry) }) goal ⌝ }
+fn arrived(x: &[f64; NUMBERS]) -> bool
+    ensures { λ r. ⌜ r ≡ arrivedOf (numbersIn (now (x .entry)) .nodes) (numbersIn (now (x .entry)) .goal) ⌝ }
 {
-    near(p[7] - goal.pf, P_PRECISION)
-        & near(v[7] - goal.vf, V_PRECISION)
-        & near(a[7] - goal.af, A_PRECISION)
+    near(x[P7] - x[PF], P_PRECISION)
+        & near(x[V7] - x[VF], V_PRECISION)
+        & near(x[A7] - x[AF], A_PRECISION)
 }
 
-fn kept(a: &[f64; 8], v: &[f64; 8], p: &[f64; 8], a_band: Band, v_band: Band) -> bool
-    ensures { λ r. ⌜ r
-        ≡ keptOf (record { a = now (a .entry); v = now (v .entry); p = now (p .entry) }) «a_band» «v_band» ⌝ }
+fn kept(x: &[f64; NUMBERS], a_band: Band, v_band: Band) -> bool
+    ensures { λ r. ⌜ r ≡ keptOf (numbersIn (now (x .entry)) .nodes) «a_band» «v_band» ⌝ }
 {
-    within(a[1], a_band)
-        & within(a[3], a_band)
-        & within(a[5], a_band)
-        & within(v[3], v_band)
-        & within(v[4], v_band)
-        & within(v[5], v_band)
-        & within(v[6], v_band)
+    within(x[A1], a_band)
+        & within(x[A3], a_band)
+        & within(x[A5], a_band)
+        & within(x[V3], v_band)
+        & within(x[V4], v_band)
+        & within(x[V5], v_band)
+        & within(x[V6], v_band)
 }
 
 pub fn check(
-    t: &[f64; 7],
-    t_sum: &mut [f64; 7],
-    j: &mut [f64; 7],
-    a: &mut [f64; 8],
-    v: &mut [f64; 8],
-    p: &mut [f64; 8],
-    goal: Goal,
+    x: &mut [f64; NUMBERS],
     labels: Labels,
     control_signs: ControlSigns,
     limits: ReachedLimits,
@@ -78,28 +95,23 @@ pub fn check(
     a_max: f64,
     a_min: f64,
 ) -> Verdict
-    ensures { λ r. ⌜ record {
-      ok = r .ok;
-      profile = profileOf (now (t .entry)) (now («t_sum» .exit)) (now (j .exit))
-          (record { a = now (a .exit); v = now (v .exit); p = now (p .exit) }) goal (r .labels);
-    }
+    ensures { λ r. ⌜ checkedIn (now (x .exit)) r
         ≡ checkOf «control_signs» limits «set_limits» jf «v_max» «v_min» «a_max» «a_min»
-        (profileOf (now (t .entry)) (now («t_sum» .entry)) (now (j .entry))
-        (record { a = now (a .entry); v = now (v .entry); p = now (p .entry) }) goal labels) ⌝ }
+        (profileIn (now (x .entry)) labels) ⌝ }
 {
     let was_limits = labels.limits;
     let was_signs = labels.control_signs;
-    if !sums(t, t_sum) {
+    if !sums(x) {
         return Verdict { ok: false, labels };
     }
     let made = tests_under(limits);
-    if refused(made, t, t_sum) {
+    if refused(made, x) {
         return Verdict { ok: false, labels };
     }
-    jerks(control_signs, t, jf, j);
+    set_jerks(x, jerks(control_signs, times(x), jf));
     let way = direction(v_max);
     let v_band = widened(v_max, v_max, v_min);
-    if !nodes(t, j, a, v, p, made, set_limits, a_max, a_min, v_band) {
+    if !nodes(x, made, set_limits, a_max, a_min, v_band) {
         return Verdict {
             ok: false,
             labels: Labels {
@@ -111,7 +123,7 @@ pub fn check(
     }
     let a_band = widened(v_max, a_max, a_min);
     Verdict {
-        ok: arrived(a, v, p, goal) & kept(a, v, p, a_band, v_band),
+        ok: arrived(x) & kept(x, a_band, v_band),
         labels: Labels {
             limits,
             direction: way,

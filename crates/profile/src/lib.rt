@@ -1,18 +1,34 @@
 // profile.rs: the record of a move, and `check`, which adds up seven phase times.
 // Left out of the Rust's `Profile` are `brake` and `accel`, which these functions neither read nor write.
 pub mod in_place;
+mod parts;
 
 use float::abs;
-use in_place::Goal;
 use labels::ControlSigns;
 use labels::Direction;
 use labels::Labels;
 use labels::ReachedLimits;
 use labels::start_labels;
+use parts::eight;
+use parts::seven;
+use row::A;
+use row::AF;
+use row::J;
+use row::NUMBERS;
+use row::P;
+use row::PF;
+use row::T_SUM;
+use row::V;
+use row::VF;
+use row::set_jerks;
+use row::set_nodes;
+use row::set_sums;
+use row::set_times;
+use row::start;
 ghost use mathlib.Core.Path.{_≡_};
 ghost use mathlib.Core.Bool.{false};
-ghost use Rattle.phases.specs.Phase.{Nodes};
-ghost use Rattle.profile.specs.Parts.{profileOf, goalOf, labelsOf};
+ghost use Rattle.row.specs.Row.{numbersIn};
+ghost use Rattle.profile.specs.Parts.{numbersOf, labelsOf, profileIn};
 ghost use Rattle.profile.specs.Check.{checkOf};
 ghost use Rattle.profile.specs.Boundary.{defaultOf, boundaryOf, checkFullOf};
 
@@ -41,46 +57,44 @@ pub struct Checked {
 }
 
 impl Profile {
-    // A profile by its parts: with `goal` and `labels` the one place where its fields are named.
-    pub fn from_parts(
-        t: [f64; 7],
-        t_sum: [f64; 7],
-        j: [f64; 7],
-        a: [f64; 8],
-        v: [f64; 8],
-        p: [f64; 8],
-        goal: Goal,
-        labels: Labels,
-    ) -> Profile
-        ensures { λ r. ⌜ r ≡ profileOf t «t_sum» j (record { a = a; v = v; p = p }) goal labels ⌝ }
+    // A profile by its row and its labels; `row` and `labels` take one apart. Its fields are named here alone.
+    pub fn from_row(x: [f64; NUMBERS], labels: Labels) -> Profile
+        ensures { λ r. ⌜ r ≡ profileIn x labels ⌝ }
     {
         let limits = labels.limits;
         let direction = labels.direction;
         let control_signs = labels.control_signs;
         Profile {
-            t,
-            t_sum,
-            j,
-            a,
-            v,
-            p,
-            pf: goal.pf,
-            vf: goal.vf,
-            af: goal.af,
+            t: seven(&x, 0),
+            t_sum: seven(&x, T_SUM),
+            j: seven(&x, J),
+            a: eight(&x, A),
+            v: eight(&x, V),
+            p: eight(&x, P),
+            pf: x[PF],
+            vf: x[VF],
+            af: x[AF],
             limits,
             direction,
             control_signs,
         }
     }
 
-    pub fn goal(self) -> Goal
-        ensures { λ r. ⌜ r ≡ goalOf self ⌝ }
+    pub fn row(self) -> [f64; NUMBERS]
+        ensures { λ r. ⌜ numbersIn r ≡ numbersOf self ⌝ }
     {
-        Goal {
-            pf: self.pf,
-            vf: self.vf,
-            af: self.af,
-        }
+        let t = self.t;
+        let t_sum = self.t_sum;
+        let j = self.j;
+        let a = self.a;
+        let v = self.v;
+        let p = self.p;
+        let mut x = start(0.0, 0.0, 0.0, self.pf, self.vf, self.af);
+        set_times(&mut x, t);
+        set_sums(&mut x, t_sum);
+        set_jerks(&mut x, j);
+        set_nodes(&mut x, a, v, p);
+        x
     }
 
     pub fn labels(self) -> Labels
@@ -100,20 +114,7 @@ impl Profile {
     pub fn default() -> Profile
         ensures { λ r. ⌜ r ≡ defaultOf ⌝ }
     {
-        Profile::from_parts(
-            [0.0; 7],
-            [0.0; 7],
-            [0.0; 7],
-            [0.0; 8],
-            [0.0; 8],
-            [0.0; 8],
-            Goal {
-                pf: 0.0,
-                vf: 0.0,
-                af: 0.0,
-            },
-            start_labels(),
-        )
+        Profile::from_row(start(0.0, 0.0, 0.0, 0.0, 0.0, 0.0), start_labels())
     }
 
     pub fn set_boundary(
@@ -151,23 +152,10 @@ impl Profile {
         ensures { λ r. ⌜ r
             ≡ checkOf «control_signs» limits «set_limits» jf «v_max» «v_min» «a_max» «a_min» self ⌝ }
     {
-        let t = self.t;
-        let mut t_sum = self.t_sum;
-        let mut j = self.j;
-        let mut a = self.a;
-        let mut v = self.v;
-        let mut p = self.p;
-        let goal = self.goal();
-        let labels = self.labels();
+        let mut x = self.row();
         let answer = in_place::check(
-            &t,
-            &mut t_sum,
-            &mut j,
-            &mut a,
-            &mut v,
-            &mut p,
-            goal,
-            labels,
+            &mut x,
+            self.labels(),
             control_signs,
             limits,
             set_limits,
@@ -180,7 +168,7 @@ impl Profile {
         let now = answer.labels;
         Checked {
             ok: answer.ok,
-            profile: Profile::from_parts(t, t_sum, j, a, v, p, goal, now),
+            profile: Profile::from_row(x, now),
         }
     }
 

@@ -28,22 +28,11 @@ module _ (t : List Float) (jf : Float) (d : Sign) (x0 x1 x2 x3 x4 x5 x6 : Float)
 
 returns : tie.Need-returns
 returns c =
-    let j6 = c .before in
-    let j5 = j6 .before .before in
-    let j4 = j5 .before .before in
-    let j3 = j4 .before .before in
-    let j2 = j3 .before .before in
-    let j1 = j2 .before .before in
-    let j0 = j1 .before .before in
-    let row = j0 .before .before .before .before .before .before .before .before .before in
+    let j5 = c .before in let j4 = j5 .before in let j3 = j4 .before in let j2 = j3 .before in let j1 = j2 .before in
+    let j0 = j1 .before in let row = j0 .before .before .before .before .before .before .before .before in
     seven _ _ _ _ _ _ _ _ _ _ (row .before .args .control-signs) (row .pattern .result) (row .pattern .ensures)
-    (j0 .jerk .ensures)
-    (j1 .jerk2 .ensures)
-    (j2 .jerk3 .ensures)
-    (j3 .jerk4 .ensures)
-    (j4 .jerk5 .ensures)
-    (j5 .jerk6 .ensures)
-    (j6 .jerk7 .ensures)
+    (j0 .jerk .ensures) (j1 .jerk2 .ensures) (j2 .jerk3 .ensures) (j3 .jerk4 .ensures) (j4 .jerk5 .ensures)
+    (j5 .jerk6 .ensures) (c .jerk7 .ensures)
 
 pub jerks-spec : {M : Type 1} → statement M
 jerks-spec =

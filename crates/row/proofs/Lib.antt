@@ -1,0 +1,2 @@
+-- A row after stores, for whoever stores in one.
+pub mod Rows
