@@ -5,7 +5,8 @@ use mathlib.Core.List.{List, [], _∷_}
 use lib.Ieee.{Float}
 use Rattle.profile.specs.declared.Profile.{Profile}
 use Rattle.profile.specs.declared.Checked.{Checked}
-use Rattle.profile.specs.Parts.{withTimes}
+use Rattle.row.specs.Row.{withTimes}
+use Rattle.profile.specs.Parts.{changed}
 use Rattle.profile.specs.Check.{checkOf}
 use Rattle.step2_solver.specs.declared.Limits.{Limits}
 use Rattle.step2_solver.specs.declared.Times.{Times}
@@ -18,7 +19,7 @@ timesOf x = x .t0 ∷ x .t1 ∷ x .t2 ∷ x .t3 ∷ x .t4 ∷ x .t5 ∷ x .t6 �
 unfoldable pub attemptOf : Limits → Trial → Profile → Checked
 attemptOf l k q =
     checkOf (k .signs) (k .label) false (k .jf) (l .«v_max») (l .«v_min») (l .«a_max») (l .«a_min»)
-    (withTimes (timesOf (k .times)) q)
+    (changed (withTimes (timesOf (k .times))) q)
 
 -- no attempt
 abbrev pub nothing : Profile → Checked

@@ -1,14 +1,18 @@
 // A trial of a shape: its seven times, held against the goal and the limits by `check`.
 use labels::Labels;
-use phases::row::NUMBERS;
 use profile::in_place::Verdict;
 use profile::in_place::check;
-use profile::in_place::set_times;
+use row::NUMBERS;
+use row::set_times;
 use step2_solver::Limits;
 use step2_solver::Trial;
 ghost use mathlib.Core.Path.{_≡_};
+ghost use Rattle.profile.specs.Parts.{profileIn, checkedIn};
+ghost use Rattle.step2_attempt.specs.Attempt.{tryOf};
 
-pub fn tried(k: Trial, l: Limits, x: &mut [f64; NUMBERS], labels: Labels) -> Verdict {
+pub fn tried(k: Trial, l: Limits, x: &mut [f64; NUMBERS], labels: Labels) -> Verdict
+    ensures { λ r. ⌜ checkedIn (now (x .exit)) r ≡ tryOf l k (profileIn (now (x .entry)) labels) ⌝ }
+{
     if k.made {
         let times = k.times;
         let signs = k.signs;
