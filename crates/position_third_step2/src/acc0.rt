@@ -5,13 +5,12 @@ use profile::in_place::Verdict;
 use step2_attempt::tried;
 use step2_solver::Limits;
 use step2_solver::PositionThirdOrderStep2;
-use step2_solver::time_acc0;
 ghost use mathlib.Core.Path.{_≡_};
 ghost use mathlib.Core.List.{[], _∷_};
 ghost use Rattle.phases.specs.Phase.{Nodes};
 ghost use Rattle.profile.specs.Parts.{profileOf};
 ghost use Rattle.step2_attempt.specs.Attempt.{triedOf};
-ghost use Rattle.step2_solver.specs.TimeAcc0.{acc0First, acc0Second, acc0Third};
+ghost use Rattle.time_acc0.specs.TimeAcc0.{acc0First, acc0Second, acc0Third};
 
 pub fn time_acc0(
     s: PositionThirdOrderStep2,

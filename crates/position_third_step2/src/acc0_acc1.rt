@@ -5,14 +5,13 @@ use profile::in_place::Verdict;
 use step2_attempt::tried;
 use step2_solver::Limits;
 use step2_solver::PositionThirdOrderStep2;
-use step2_solver::time_acc0_acc1;
 ghost use mathlib.Core.Path.{_≡_};
 ghost use mathlib.Core.Bool.{cond};
 ghost use mathlib.Core.List.{[], _∷_};
 ghost use Rattle.phases.specs.Phase.{Nodes};
 ghost use Rattle.profile.specs.Parts.{profileOf};
 ghost use Rattle.step2_attempt.specs.Attempt.{triedOf};
-ghost use Rattle.step2_solver.specs.TimeAcc0Acc1.{acc0Acc1RestApplies, acc0Acc1Rest, acc0Acc1Uddu};
+ghost use Rattle.time_acc0_acc1.specs.TimeAcc0Acc1.{acc0Acc1RestApplies, acc0Acc1Rest, acc0Acc1Uddu};
 
 pub fn time_acc0_acc1(
     s: PositionThirdOrderStep2,

@@ -5,18 +5,17 @@ use profile::in_place::Verdict;
 use roots::RootAnswer;
 use roots::sorted_roots;
 use step2_attempt::tried;
+use step2_quartics::Quartics;
 use step2_solver::Limits;
 use step2_solver::PositionThirdOrderStep2;
-use step2_solver_quartic::Quartics;
-use step2_solver_quartic::time_acc0_vel;
 ghost use mathlib.Core.Path.{_≡_};
 ghost use mathlib.Core.Bool.{cond};
 ghost use mathlib.Core.List.{[], _++_};
 ghost use Rattle.phases.specs.Phase.{Nodes};
 ghost use Rattle.profile.specs.Parts.{profileOf};
 ghost use Rattle.step2_attempt.specs.Attempt.{triedOf};
-ghost use Rattle.step2_solver_quartic.specs.TimeAcc0Vel.{acc0VelTooShort, acc0VelUdduWindow, acc0VelUddu};
-ghost use Rattle.step2_solver_quartic.specs.TimeAcc0Vel.{acc0VelUdudWindow, acc0VelUdud};
+ghost use Rattle.time_acc0_vel.specs.TimeAcc0Vel.{acc0VelTooShort, acc0VelUdduWindow, acc0VelUddu};
+ghost use Rattle.time_acc0_vel.specs.TimeAcc0Vel.{acc0VelUdudWindow, acc0VelUdud};
 ghost use Rattle.position_third_step2.specs.Shape.{overRoots};
 
 // Profile UDDU: the roots in their order of trial.

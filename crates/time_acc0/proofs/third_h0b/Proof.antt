@@ -1,0 +1,12 @@
+-- `third_h0b` is `acc0ThirdH0b`: the same operations in the same order. Assumes nothing.
+use mathlib.Core.Path.{refl}
+use Rattle.time_acc0.specs.TimeAcc0.{acc0ThirdH0b}
+use Rattle.time_acc0.proofs.third_h0b.Statement.{statement}
+use Rattle.time_acc0.proofs.third_h0b.Tie as tie
+
+returns : tie.Need-returns
+unfolding acc0ThirdH0b
+returns c = refl
+
+pub third-h0b-spec : {M : Type 1} → statement M
+third-h0b-spec = tie.close (tie.spec returns)

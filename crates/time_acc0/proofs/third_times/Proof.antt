@@ -1,0 +1,12 @@
+-- `third_times` is `acc0ThirdTimes`: the same operations in the same order. Assumes nothing.
+use mathlib.Core.Path.{refl}
+use Rattle.time_acc0.specs.TimeAcc0.{acc0ThirdTimes}
+use Rattle.time_acc0.proofs.third_times.Statement.{statement}
+use Rattle.time_acc0.proofs.third_times.Tie as tie
+
+returns : tie.Need-returns
+unfolding acc0ThirdTimes
+returns c = refl
+
+pub third-times-spec : {M : Type 1} → statement M
+third-times-spec = tie.close (tie.spec returns)

@@ -1,0 +1,12 @@
+-- `rest_times` is `acc0Acc1RestTimes`: the same operations in the same order. Assumes nothing.
+use mathlib.Core.Path.{refl}
+use Rattle.time_acc0_acc1.specs.TimeAcc0Acc1.{acc0Acc1RestTimes}
+use Rattle.time_acc0_acc1.proofs.rest_times.Statement.{statement}
+use Rattle.time_acc0_acc1.proofs.rest_times.Tie as tie
+
+returns : tie.Need-returns
+unfolding acc0Acc1RestTimes
+returns c = refl
+
+pub rest-times-spec : {M : Type 1} → statement M
+rest-times-spec = tie.close (tie.spec returns)

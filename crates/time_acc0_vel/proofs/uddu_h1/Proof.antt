@@ -1,0 +1,12 @@
+-- `uddu_h1` is `acc0VelUdduH1`: the same operations in the same order. Assumes nothing.
+use mathlib.Core.Path.{refl}
+use Rattle.time_acc0_vel.specs.TimeAcc0Vel.{acc0VelUdduH1}
+use Rattle.time_acc0_vel.proofs.uddu_h1.Statement.{statement}
+use Rattle.time_acc0_vel.proofs.uddu_h1.Tie as tie
+
+returns : tie.Need-returns
+unfolding acc0VelUdduH1
+returns c = refl
+
+pub uddu-h1-spec : {M : Type 1} → statement M
+uddu-h1-spec = tie.close (tie.spec returns)
