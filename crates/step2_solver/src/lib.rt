@@ -7,7 +7,7 @@ use labels::ControlSigns;
 use labels::ReachedLimits;
 ghost use mathlib.Core.Path.{_≡_};
 ghost use Rattle.step2_solver.specs.New.{newOf, solverOf, limitsOf};
-ghost use Rattle.step2_solver.specs.Trials.{trialOf, noTrial};
+ghost use Rattle.step2_solver.specs.Trials.{timesOf, trialOf, noTrial};
 ghost use Rattle.step2_solver.specs.Window.{outsideOf};
 
 // The twelve numbers of a move, in the order of `new`.
@@ -95,6 +95,20 @@ pub struct Trial {
     pub signs: ControlSigns,
     pub label: ReachedLimits,
     pub jf: f64,
+}
+
+pub fn times_of(t0: f64, t1: f64, t2: f64, t3: f64, t4: f64, t5: f64, t6: f64) -> Times
+    ensures { λ r. ⌜ r ≡ timesOf t0 t1 t2 t3 t4 t5 t6 ⌝ }
+{
+    Times {
+        t0,
+        t1,
+        t2,
+        t3,
+        t4,
+        t5,
+        t6,
+    }
 }
 
 pub fn trial_of(times: Times, signs: ControlSigns, label: ReachedLimits, jf: f64) -> Trial

@@ -6,12 +6,13 @@ use step2_solver::Limits;
 use step2_solver::PositionThirdOrderStep2;
 use step2_solver::Times;
 use step2_solver::Trial;
+use step2_solver::times_of;
 use step2_solver::trial_of;
 ghost use mathlib.Core.Path.{_≡_};
 ghost use Rattle.time_acc0.specs.TimeAcc0.{acc0FirstH1, acc0FirstTimes, acc0SecondH0a, acc0SecondH0b};
-ghost use Rattle.time_acc0.specs.TimeAcc0.{acc0SecondH0, acc0SecondH1, acc0SecondT1, acc0SecondTimes};
-ghost use Rattle.time_acc0.specs.TimeAcc0.{acc0ThirdH0a, acc0ThirdH0b, acc0ThirdH1, acc0ThirdH2};
-ghost use Rattle.time_acc0.specs.TimeAcc0.{acc0ThirdTimes, acc0First, acc0Second, acc0Third};
+ghost use Rattle.time_acc0.specs.TimeAcc0.{acc0SecondH0, acc0SecondT1, acc0SecondTimes, acc0ThirdH0a};
+ghost use Rattle.time_acc0.specs.TimeAcc0.{acc0ThirdH0b, acc0ThirdH1, acc0ThirdTimes, acc0First, acc0Second};
+ghost use Rattle.time_acc0.specs.TimeAcc0.{acc0Third};
 
 // First attempt: UDUD
 
@@ -34,15 +35,7 @@ fn first_times(s: PositionThirdOrderStep2, a_max: f64, j_max: f64, h1: f64) -> T
     let t4 = (s.af - a_max) / j_max + h1;
     let t5 = 0.0;
     let t6 = 0.0;
-    Times {
-        t0,
-        t1,
-        t2,
-        t3,
-        t4,
-        t5,
-        t6,
-    }
+    times_of(t0, t1, t2, t3, t4, t5, t6)
 }
 
 pub fn first(s: PositionThirdOrderStep2, l: Limits) -> Trial
@@ -81,12 +74,6 @@ fn second_h0(j_max: f64, h0a: f64, h0b: f64) -> f64
     float::abs(j_max) * sqrt::sqrt(4.0 * h0b * h0b - 18.0 * h0a * h0a * h0a)
 }
 
-fn second_h1(j_max: f64, h0a: f64) -> f64
-    ensures { λ r. ⌜ r ≡ acc0SecondH1 «j_max» h0a ⌝ }
-{
-    3.0 * j_max * h0a
-}
-
 fn second_t1(s: PositionThirdOrderStep2, a_max: f64, j_max: f64, h1: f64) -> f64
     ensures { λ r. ⌜ r ≡ acc0SecondT1 s «a_max» «j_max» h1 ⌝ }
 {
@@ -116,15 +103,7 @@ fn second_times(
     let t4 = 0.0;
     let t5 = 0.0;
     let t6 = s.tf - (t0 + t1 + t2 + t3);
-    Times {
-        t0,
-        t1,
-        t2,
-        t3,
-        t4,
-        t5,
-        t6,
-    }
+    times_of(t0, t1, t2, t3, t4, t5, t6)
 }
 
 pub fn second(s: PositionThirdOrderStep2, l: Limits) -> Trial
@@ -133,7 +112,7 @@ pub fn second(s: PositionThirdOrderStep2, l: Limits) -> Trial
     let h0a = second_h0a(s, l.a_max, l.j_max);
     let h0b = second_h0b(s, l.a_max, l.j_max);
     let h0 = second_h0(l.j_max, h0a, h0b);
-    let h1 = second_h1(l.j_max, h0a);
+    let h1 = 3.0 * l.j_max * h0a;
     let t1 = second_t1(s, l.a_max, l.j_max, h1);
     let times = second_times(s, l.a_max, l.j_max, h0, h1, t1);
     trial_of(times, ControlSigns::UDDU, ReachedLimits::None, l.j_max)
@@ -169,12 +148,6 @@ fn third_h1(j_max: f64, h0a: f64, h0b: f64) -> f64
     float::abs(j_max) / j_max * sqrt::sqrt(4.0 * h0a * h0a - 18.0 * h0b * h0b * h0b)
 }
 
-fn third_h2(j_max: f64, h0b: f64) -> f64
-    ensures { λ r. ⌜ r ≡ acc0ThirdH2 «j_max» h0b ⌝ }
-{
-    6.0 * j_max * h0b
-}
-
 fn third_times(
     s: PositionThirdOrderStep2,
     a_max: f64,
@@ -192,15 +165,7 @@ fn third_times(
     let t4 = s.tf - (t0 + t1 + t2 + t3);
     let t5 = 0.0;
     let t6 = 0.0;
-    Times {
-        t0,
-        t1,
-        t2,
-        t3,
-        t4,
-        t5,
-        t6,
-    }
+    times_of(t0, t1, t2, t3, t4, t5, t6)
 }
 
 pub fn third(s: PositionThirdOrderStep2, l: Limits) -> Trial
@@ -209,7 +174,7 @@ pub fn third(s: PositionThirdOrderStep2, l: Limits) -> Trial
     let h0a = third_h0a(s, l.a_max, l.j_max);
     let h0b = third_h0b(s, l.a_max, l.j_max);
     let h1 = third_h1(l.j_max, h0a, h0b);
-    let h2 = third_h2(l.j_max, h0b);
+    let h2 = 6.0 * l.j_max * h0b;
     let times = third_times(s, l.a_max, l.j_max, h0a, h1, h2);
     trial_of(times, ControlSigns::UDDU, ReachedLimits::Acc0, l.j_max)
 }

@@ -6,13 +6,13 @@ use step2_solver::Limits;
 use step2_solver::PositionThirdOrderStep2;
 use step2_solver::Times;
 use step2_solver::Trial;
+use step2_solver::times_of;
 use step2_solver::trial_of;
 ghost use mathlib.Core.Path.{_≡_};
 ghost use Rattle.time_acc0_acc1.specs.TimeAcc0Acc1.{acc0Acc1RestApplies, acc0Acc1RestH1, acc0Acc1RestH2};
-ghost use Rattle.time_acc0_acc1.specs.TimeAcc0Acc1.{acc0Acc1RestJf, acc0Acc1RestT1, acc0Acc1RestTimes};
-ghost use Rattle.time_acc0_acc1.specs.TimeAcc0Acc1.{acc0Acc1UdduRadicand, acc0Acc1UdduH1, acc0Acc1UdduJf};
-ghost use Rattle.time_acc0_acc1.specs.TimeAcc0Acc1.{acc0Acc1UdduT1, acc0Acc1UdduTimes, acc0Acc1Rest};
-ghost use Rattle.time_acc0_acc1.specs.TimeAcc0Acc1.{acc0Acc1Uddu};
+ghost use Rattle.time_acc0_acc1.specs.TimeAcc0Acc1.{acc0Acc1RestT1, acc0Acc1RestTimes, acc0Acc1UdduRadicand};
+ghost use Rattle.time_acc0_acc1.specs.TimeAcc0Acc1.{acc0Acc1UdduH1, acc0Acc1UdduJf, acc0Acc1UdduT1};
+ghost use Rattle.time_acc0_acc1.specs.TimeAcc0Acc1.{acc0Acc1UdduTimes, acc0Acc1Rest, acc0Acc1Uddu};
 
 // `f64::EPSILON`, 2^-52.
 const EPSILON: f64 = 2.220446049250313e-16;
@@ -37,12 +37,6 @@ fn rest_h2(s: PositionThirdOrderStep2, a_max: f64, a_min: f64) -> f64
     (a_max - a_min) * (-a_min * s.vd + a_max * (a_min * s.tf - s.vd))
 }
 
-fn rest_jf(h1: f64, h2: f64) -> f64
-    ensures { λ r. ⌜ r ≡ acc0Acc1RestJf h1 h2 ⌝ }
-{
-    h2 / h1
-}
-
 fn rest_t1(s: PositionThirdOrderStep2, a_max: f64, a_min: f64, h1: f64, h2: f64) -> f64
     ensures { λ r. ⌜ r ≡ acc0Acc1RestT1 s «a_max» «a_min» h1 h2 ⌝ }
 {
@@ -58,15 +52,7 @@ fn rest_times(s: PositionThirdOrderStep2, a_max: f64, a_min: f64, jf: f64, t1: f
     let t4 = -a_min / jf;
     let t5 = s.tf - (2.0 * t0 + t1 + 2.0 * t4);
     let t6 = t4;
-    Times {
-        t0,
-        t1,
-        t2,
-        t3,
-        t4,
-        t5,
-        t6,
-    }
+    times_of(t0, t1, t2, t3, t4, t5, t6)
 }
 
 pub fn rest(s: PositionThirdOrderStep2, l: Limits) -> Trial
@@ -74,7 +60,7 @@ pub fn rest(s: PositionThirdOrderStep2, l: Limits) -> Trial
 {
     let h1 = rest_h1(s, l.a_max, l.a_min);
     let h2 = rest_h2(s, l.a_max, l.a_min);
-    let jf = rest_jf(h1, h2);
+    let jf = h2 / h1;
     let t1 = rest_t1(s, l.a_max, l.a_min, h1, h2);
     let times = rest_times(s, l.a_max, l.a_min, jf, t1);
     trial_of(times, ControlSigns::UDDU, ReachedLimits::Acc0Acc1, jf)
@@ -149,15 +135,7 @@ fn uddu_times(s: PositionThirdOrderStep2, a_max: f64, a_min: f64, jf: f64, t1: f
     let t4 = -a_min / jf;
     let t5 = s.tf - (t0 + t1 + t2 + 2.0 * t4 + s.af / jf);
     let t6 = t4 + s.af / jf;
-    Times {
-        t0,
-        t1,
-        t2,
-        t3,
-        t4,
-        t5,
-        t6,
-    }
+    times_of(t0, t1, t2, t3, t4, t5, t6)
 }
 
 pub fn uddu(s: PositionThirdOrderStep2, l: Limits) -> Trial

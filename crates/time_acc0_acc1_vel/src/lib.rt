@@ -7,23 +7,16 @@ use step2_solver::PositionThirdOrderStep2;
 use step2_solver::Times;
 use step2_solver::Trial;
 use step2_solver::no_trial;
+use step2_solver::times_of;
 use step2_solver::trial_of;
 ghost use mathlib.Core.Path.{_≡_};
-ghost use Rattle.time_acc0_acc1_vel.specs.TimeAcc0Acc1Vel.{acc0Acc1VelUdduApplies, acc0Acc1VelUdduRadicand};
-ghost use Rattle.time_acc0_acc1_vel.specs.TimeAcc0Acc1Vel.{acc0Acc1VelUdduH1, acc0Acc1VelUdduT1};
-ghost use Rattle.time_acc0_acc1_vel.specs.TimeAcc0Acc1Vel.{acc0Acc1VelUdduTimes, acc0Acc1VelUdudApplies};
+ghost use Rattle.time_acc0_acc1_vel.specs.TimeAcc0Acc1Vel.{acc0Acc1VelUdduRadicand, acc0Acc1VelUdduH1};
+ghost use Rattle.time_acc0_acc1_vel.specs.TimeAcc0Acc1Vel.{acc0Acc1VelUdduT1, acc0Acc1VelUdduTimes};
 ghost use Rattle.time_acc0_acc1_vel.specs.TimeAcc0Acc1Vel.{acc0Acc1VelUdudT1, acc0Acc1VelUdudT3};
 ghost use Rattle.time_acc0_acc1_vel.specs.TimeAcc0Acc1Vel.{acc0Acc1VelUdudTimes, acc0Acc1VelUddu};
 ghost use Rattle.time_acc0_acc1_vel.specs.TimeAcc0Acc1Vel.{acc0Acc1VelUdud};
 
 // Profile UDDU, Solution 1
-
-// Whether this attempt is made.
-fn uddu_applies(s: PositionThirdOrderStep2, a_max: f64, a_min: f64, j_max: f64) -> bool
-    ensures { λ r. ⌜ r ≡ acc0Acc1VelUdduApplies s «a_max» «a_min» «j_max» ⌝ }
-{
-    (2.0 * (a_max - a_min) + s.ad) / j_max < s.tf
-}
 
 fn uddu_radicand(s: PositionThirdOrderStep2, a_max: f64, a_min: f64, j_max: f64) -> f64
     ensures { λ r. ⌜ r ≡ acc0Acc1VelUdduRadicand s «a_max» «a_min» «j_max» ⌝ }
@@ -83,21 +76,13 @@ fn uddu_times(
     let t4 = -a_min / j_max;
     let t5 = s.tf - (t0 + t1 + t2 + t3 + 2.0 * t4 + s.af / j_max);
     let t6 = t4 + s.af / j_max;
-    Times {
-        t0,
-        t1,
-        t2,
-        t3,
-        t4,
-        t5,
-        t6,
-    }
+    times_of(t0, t1, t2, t3, t4, t5, t6)
 }
 
 pub fn uddu(s: PositionThirdOrderStep2, l: Limits) -> Trial
     ensures { λ r. ⌜ r ≡ acc0Acc1VelUddu s l ⌝ }
 {
-    if uddu_applies(s, l.a_max, l.a_min, l.j_max) {
+    if (2.0 * (l.a_max - l.a_min) + s.ad) / l.j_max < s.tf {
         let h1 = uddu_h1(s, l.a_max, l.a_min, l.j_max);
         let t1 = uddu_t1(s, l.a_max, l.a_min, l.j_max, h1);
         let times = uddu_times(s, l.a_max, l.a_min, l.j_max, h1, t1);
@@ -113,13 +98,6 @@ pub fn uddu(s: PositionThirdOrderStep2, l: Limits) -> Trial
 }
 
 // Profile UDUD
-
-// Whether this attempt is made.
-fn udud_applies(s: PositionThirdOrderStep2, a_max: f64, j_max: f64) -> bool
-    ensures { λ r. ⌜ r ≡ acc0Acc1VelUdudApplies s «a_max» «j_max» ⌝ }
-{
-    (-s.a0 + 4.0 * a_max - s.af) / j_max < s.tf
-}
 
 fn udud_t1(s: PositionThirdOrderStep2, a_max: f64, j_max: f64) -> f64
     ensures { λ r. ⌜ r ≡ acc0Acc1VelUdudT1 s «a_max» «j_max» ⌝ }
@@ -154,21 +132,13 @@ fn udud_times(s: PositionThirdOrderStep2, a_max: f64, j_max: f64, t1: f64, t3: f
     let t4 = t2;
     let t5 = s.tf - (t0 + t1 + t2 + t3 + 2.0 * t4 - s.af / j_max);
     let t6 = t4 - s.af / j_max;
-    Times {
-        t0,
-        t1,
-        t2,
-        t3,
-        t4,
-        t5,
-        t6,
-    }
+    times_of(t0, t1, t2, t3, t4, t5, t6)
 }
 
 pub fn udud(s: PositionThirdOrderStep2, l: Limits) -> Trial
     ensures { λ r. ⌜ r ≡ acc0Acc1VelUdud s l ⌝ }
 {
-    if udud_applies(s, l.a_max, l.j_max) {
+    if (-s.a0 + 4.0 * l.a_max - s.af) / l.j_max < s.tf {
         let t1 = udud_t1(s, l.a_max, l.j_max);
         let t3 = udud_t3(s, l.a_max, l.j_max);
         let times = udud_times(s, l.a_max, l.j_max, t1, t3);

@@ -9,16 +9,15 @@ use step2_solver::Trial;
 use step2_solver::Window;
 use step2_solver::no_trial;
 use step2_solver::outside;
+use step2_solver::times_of;
 use step2_solver::trial_of;
 ghost use mathlib.Core.Path.{_≡_};
 ghost use Rattle.time_acc0_vel.specs.TimeAcc0Vel.{acc0VelTooShort, acc0VelPh1, acc0VelUdduPolynom};
-ghost use Rattle.time_acc0_vel.specs.TimeAcc0Vel.{acc0VelUdduTMin, acc0VelUdduTMax, acc0VelUdduOrig};
-ghost use Rattle.time_acc0_vel.specs.TimeAcc0Vel.{acc0VelUdduDeriv, acc0VelUdduNewton, acc0VelUdduH1};
-ghost use Rattle.time_acc0_vel.specs.TimeAcc0Vel.{acc0VelUdduTimes, acc0VelUdudPolynom, acc0VelUdudTMin};
-ghost use Rattle.time_acc0_vel.specs.TimeAcc0Vel.{acc0VelUdudTMax, acc0VelUdudOrig, acc0VelUdudDeriv};
-ghost use Rattle.time_acc0_vel.specs.TimeAcc0Vel.{acc0VelUdudNewton, acc0VelUdudH1, acc0VelUdudTimes};
-ghost use Rattle.time_acc0_vel.specs.TimeAcc0Vel.{acc0VelUdduWindow, acc0VelUddu, acc0VelUdudWindow};
-ghost use Rattle.time_acc0_vel.specs.TimeAcc0Vel.{acc0VelUdud};
+ghost use Rattle.time_acc0_vel.specs.TimeAcc0Vel.{acc0VelUdduOrig, acc0VelUdduDeriv, acc0VelUdduNewton};
+ghost use Rattle.time_acc0_vel.specs.TimeAcc0Vel.{acc0VelUdduH1, acc0VelUdduTimes, acc0VelUdudPolynom};
+ghost use Rattle.time_acc0_vel.specs.TimeAcc0Vel.{acc0VelUdudOrig, acc0VelUdudDeriv, acc0VelUdudNewton};
+ghost use Rattle.time_acc0_vel.specs.TimeAcc0Vel.{acc0VelUdudH1, acc0VelUdudTimes, acc0VelUdduWindow};
+ghost use Rattle.time_acc0_vel.specs.TimeAcc0Vel.{acc0VelUddu, acc0VelUdudWindow, acc0VelUdud};
 
 // `f64::EPSILON`, 2^-52.
 const EPSILON: f64 = 2.220446049250313e-16;
@@ -59,16 +58,12 @@ pub fn uddu_polynom(s: PositionThirdOrderStep2, a_max: f64, j_max: f64, ph1: f64
     [polynom0, polynom1, polynom2, polynom3]
 }
 
-fn uddu_t_min(s: PositionThirdOrderStep2, j_max: f64) -> f64
-    ensures { λ r. ⌜ r ≡ acc0VelUdduTMin s «j_max» ⌝ }
+pub fn uddu_window(s: PositionThirdOrderStep2, l: Limits) -> Window
+    ensures { λ r. ⌜ r ≡ acc0VelUdduWindow s l ⌝ }
 {
-    -s.af / j_max
-}
-
-fn uddu_t_max(s: PositionThirdOrderStep2, a_max: f64, a_min: f64, j_max: f64) -> f64
-    ensures { λ r. ⌜ r ≡ acc0VelUdduTMax s «a_max» «a_min» «j_max» ⌝ }
-{
-    float::min(s.tf - (2.0 * a_max - s.a0) / j_max, -a_min / j_max)
+    let t_min = -s.af / l.j_max;
+    let t_max = float::min(s.tf - (2.0 * l.a_max - s.a0) / l.j_max, -l.a_min / l.j_max);
+    Window { t_min, t_max }
 }
 
 fn uddu_orig(s: PositionThirdOrderStep2, a_max: f64, j_max: f64, t: f64, h1: f64) -> f64
@@ -127,24 +122,7 @@ fn uddu_times(s: PositionThirdOrderStep2, a_max: f64, j_max: f64, t: f64, h1: f6
     let t4 = t;
     let t5 = 0.0;
     let t6 = s.af / j_max + t;
-    Times {
-        t0,
-        t1,
-        t2,
-        t3,
-        t4,
-        t5,
-        t6,
-    }
-}
-
-pub fn uddu_window(s: PositionThirdOrderStep2, l: Limits) -> Window
-    ensures { λ r. ⌜ r ≡ acc0VelUdduWindow s l ⌝ }
-{
-    Window {
-        t_min: uddu_t_min(s, l.j_max),
-        t_max: uddu_t_max(s, l.a_max, l.a_min, l.j_max),
-    }
+    times_of(t0, t1, t2, t3, t4, t5, t6)
 }
 
 // One root.
@@ -180,16 +158,12 @@ pub fn udud_polynom(s: PositionThirdOrderStep2, a_max: f64, j_max: f64, ph1: f64
     [polynom0, polynom1, polynom2, polynom3]
 }
 
-fn udud_t_min(s: PositionThirdOrderStep2, j_max: f64) -> f64
-    ensures { λ r. ⌜ r ≡ acc0VelUdudTMin s «j_max» ⌝ }
+pub fn udud_window(s: PositionThirdOrderStep2, l: Limits) -> Window
+    ensures { λ r. ⌜ r ≡ acc0VelUdudWindow s l ⌝ }
 {
-    s.af / j_max
-}
-
-fn udud_t_max(s: PositionThirdOrderStep2, a_max: f64, j_max: f64) -> f64
-    ensures { λ r. ⌜ r ≡ acc0VelUdudTMax s «a_max» «j_max» ⌝ }
-{
-    float::min(s.tf - a_max / j_max, a_max / j_max)
+    let t_min = s.af / l.j_max;
+    let t_max = float::min(s.tf - l.a_max / l.j_max, l.a_max / l.j_max);
+    Window { t_min, t_max }
 }
 
 fn udud_orig(s: PositionThirdOrderStep2, a_max: f64, j_max: f64, t: f64, h1: f64) -> f64
@@ -241,24 +215,7 @@ fn udud_times(s: PositionThirdOrderStep2, a_max: f64, j_max: f64, t: f64, h1: f6
     let t4 = t;
     let t5 = 0.0;
     let t6 = -(s.af / j_max) + t;
-    Times {
-        t0,
-        t1,
-        t2,
-        t3,
-        t4,
-        t5,
-        t6,
-    }
-}
-
-pub fn udud_window(s: PositionThirdOrderStep2, l: Limits) -> Window
-    ensures { λ r. ⌜ r ≡ acc0VelUdudWindow s l ⌝ }
-{
-    Window {
-        t_min: udud_t_min(s, l.j_max),
-        t_max: udud_t_max(s, l.a_max, l.j_max),
-    }
+    times_of(t0, t1, t2, t3, t4, t5, t6)
 }
 
 // One root.

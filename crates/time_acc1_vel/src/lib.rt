@@ -9,24 +9,16 @@ use step2_solver::Trial;
 use step2_solver::Window;
 use step2_solver::no_trial;
 use step2_solver::outside;
+use step2_solver::times_of;
 use step2_solver::trial_of;
 ghost use mathlib.Core.Path.{_≡_};
-ghost use Rattle.time_acc1_vel.specs.TimeAcc1Vel.{acc1VelTMin, acc1VelUdduPolynom, acc1VelUdduTMax};
-ghost use Rattle.time_acc1_vel.specs.TimeAcc1Vel.{acc1VelUdduOrig, acc1VelUdduDeriv, acc1VelUdduNewton};
-ghost use Rattle.time_acc1_vel.specs.TimeAcc1Vel.{acc1VelUdduH1, acc1VelUdduTimes, acc1VelUdudPolynom};
-ghost use Rattle.time_acc1_vel.specs.TimeAcc1Vel.{acc1VelUdudTMax, acc1VelUdudH1, acc1VelUdudTimes};
-ghost use Rattle.time_acc1_vel.specs.TimeAcc1Vel.{acc1VelUdduWindow, acc1VelUddu, acc1VelUdudWindow};
-ghost use Rattle.time_acc1_vel.specs.TimeAcc1Vel.{acc1VelUdud};
+ghost use Rattle.time_acc1_vel.specs.TimeAcc1Vel.{acc1VelUdduPolynom, acc1VelUdduOrig, acc1VelUdduDeriv};
+ghost use Rattle.time_acc1_vel.specs.TimeAcc1Vel.{acc1VelUdduNewton, acc1VelUdduH1, acc1VelUdduTimes};
+ghost use Rattle.time_acc1_vel.specs.TimeAcc1Vel.{acc1VelUdudPolynom, acc1VelUdudH1, acc1VelUdudTimes};
+ghost use Rattle.time_acc1_vel.specs.TimeAcc1Vel.{acc1VelUdduWindow, acc1VelUddu, acc1VelUdudWindow, acc1VelUdud};
 
 // `16.0 * f64::EPSILON`, 2^-48.
 const EPSILON_16: f64 = 3.552713678800501e-15;
-
-// The least root that either attempt takes.
-fn t_min(s: PositionThirdOrderStep2, j_max: f64) -> f64
-    ensures { λ r. ⌜ r ≡ acc1VelTMin s «j_max» ⌝ }
-{
-    -s.a0 / j_max
-}
 
 // Profile UDDU
 
@@ -49,13 +41,15 @@ pub fn uddu_polynom(s: PositionThirdOrderStep2, a_min: f64, j_max: f64) -> [f64;
     [polynom0, polynom1, polynom2, polynom3]
 }
 
-fn uddu_t_max(s: PositionThirdOrderStep2, a_max: f64, a_min: f64, j_max: f64) -> f64
-    ensures { λ r. ⌜ r ≡ acc1VelUdduTMax s «a_max» «a_min» «j_max» ⌝ }
+pub fn uddu_window(s: PositionThirdOrderStep2, l: Limits) -> Window
+    ensures { λ r. ⌜ r ≡ acc1VelUdduWindow s l ⌝ }
 {
-    float::min(
-        (s.tf + 2.0 * a_min / j_max - (s.a0 + s.af) / j_max) / 2.0,
-        (a_max - s.a0) / j_max,
-    )
+    let t_min = -s.a0 / l.j_max;
+    let t_max = float::min(
+        (s.tf + 2.0 * l.a_min / l.j_max - (s.a0 + s.af) / l.j_max) / 2.0,
+        (l.a_max - s.a0) / l.j_max,
+    );
+    Window { t_min, t_max }
 }
 
 fn uddu_orig(s: PositionThirdOrderStep2, a_min: f64, j_max: f64, t: f64, h0: f64) -> f64
@@ -123,24 +117,7 @@ fn uddu_times(s: PositionThirdOrderStep2, a_min: f64, j_max: f64, t: f64, h1: f6
     let t4 = -a_min / j_max;
     let t5 = (h1 + a_min) / j_max;
     let t6 = t4 + s.af / j_max;
-    Times {
-        t0,
-        t1,
-        t2,
-        t3,
-        t4,
-        t5,
-        t6,
-    }
-}
-
-pub fn uddu_window(s: PositionThirdOrderStep2, l: Limits) -> Window
-    ensures { λ r. ⌜ r ≡ acc1VelUdduWindow s l ⌝ }
-{
-    Window {
-        t_min: t_min(s, l.j_max),
-        t_max: uddu_t_max(s, l.a_max, l.a_min, l.j_max),
-    }
+    times_of(t0, t1, t2, t3, t4, t5, t6)
 }
 
 // One root.
@@ -180,13 +157,15 @@ pub fn udud_polynom(s: PositionThirdOrderStep2, a_max: f64, j_max: f64) -> [f64;
     [polynom0, polynom1, polynom2, polynom3]
 }
 
-fn udud_t_max(s: PositionThirdOrderStep2, a_max: f64, j_max: f64) -> f64
-    ensures { λ r. ⌜ r ≡ acc1VelUdudTMax s «a_max» «j_max» ⌝ }
+pub fn udud_window(s: PositionThirdOrderStep2, l: Limits) -> Window
+    ensures { λ r. ⌜ r ≡ acc1VelUdudWindow s l ⌝ }
 {
-    float::min(
-        (s.tf + s.ad / j_max - 2.0 * a_max / j_max) / 2.0,
-        (a_max - s.a0) / j_max,
-    )
+    let t_min = -s.a0 / l.j_max;
+    let t_max = float::min(
+        (s.tf + s.ad / l.j_max - 2.0 * l.a_max / l.j_max) / 2.0,
+        (l.a_max - s.a0) / l.j_max,
+    );
+    Window { t_min, t_max }
 }
 
 fn udud_h1(s: PositionThirdOrderStep2, a_max: f64, j_max: f64, t: f64) -> f64
@@ -205,24 +184,7 @@ fn udud_times(s: PositionThirdOrderStep2, a_max: f64, j_max: f64, t: f64, h1: f6
     let t4 = a_max / j_max;
     let t5 = -(h1 + a_max) / j_max;
     let t6 = t4 - s.af / j_max;
-    Times {
-        t0,
-        t1,
-        t2,
-        t3,
-        t4,
-        t5,
-        t6,
-    }
-}
-
-pub fn udud_window(s: PositionThirdOrderStep2, l: Limits) -> Window
-    ensures { λ r. ⌜ r ≡ acc1VelUdudWindow s l ⌝ }
-{
-    Window {
-        t_min: t_min(s, l.j_max),
-        t_max: udud_t_max(s, l.a_max, l.j_max),
-    }
+    times_of(t0, t1, t2, t3, t4, t5, t6)
 }
 
 // One root.

@@ -1,12 +1,11 @@
--- `first_times` is `acc0FirstTimes`: the same operations in the same order. Assumes nothing.
-use mathlib.Core.Path.{refl}
+-- `first_times` is `acc0FirstTimes`: the same operations on what its calls give. Assumes nothing.
 use Rattle.time_acc0.specs.TimeAcc0.{acc0FirstTimes}
 use Rattle.time_acc0.proofs.first_times.Statement.{statement}
 use Rattle.time_acc0.proofs.first_times.Tie as tie
 
 returns : tie.Need-returns
 unfolding acc0FirstTimes
-returns c = refl
+returns c = rw (c .times-of .ensures)
 
 pub first-times-spec : {M : Type 1} → statement M
-first-times-spec = tie.close (tie.spec returns)
+first-times-spec = tie.close (tie.spec (λ c κs. tt) returns)

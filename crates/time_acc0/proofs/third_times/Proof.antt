@@ -1,12 +1,11 @@
--- `third_times` is `acc0ThirdTimes`: the same operations in the same order. Assumes nothing.
-use mathlib.Core.Path.{refl}
+-- `third_times` is `acc0ThirdTimes`: the same operations on what its calls give. Assumes nothing.
 use Rattle.time_acc0.specs.TimeAcc0.{acc0ThirdTimes}
 use Rattle.time_acc0.proofs.third_times.Statement.{statement}
 use Rattle.time_acc0.proofs.third_times.Tie as tie
 
 returns : tie.Need-returns
 unfolding acc0ThirdTimes
-returns c = refl
+returns c = rw (c .times-of .ensures)
 
 pub third-times-spec : {M : Type 1} → statement M
-third-times-spec = tie.close (tie.spec returns)
+third-times-spec = tie.close (tie.spec (λ c κs. tt) returns)

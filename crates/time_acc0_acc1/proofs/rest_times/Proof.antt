@@ -1,12 +1,11 @@
--- `rest_times` is `acc0Acc1RestTimes`: the same operations in the same order. Assumes nothing.
-use mathlib.Core.Path.{refl}
+-- `rest_times` is `acc0Acc1RestTimes`: the same operations on what its calls give. Assumes nothing.
 use Rattle.time_acc0_acc1.specs.TimeAcc0Acc1.{acc0Acc1RestTimes}
 use Rattle.time_acc0_acc1.proofs.rest_times.Statement.{statement}
 use Rattle.time_acc0_acc1.proofs.rest_times.Tie as tie
 
 returns : tie.Need-returns
 unfolding acc0Acc1RestTimes
-returns c = refl
+returns c = rw (c .times-of .ensures)
 
 pub rest-times-spec : {M : Type 1} → statement M
-rest-times-spec = tie.close (tie.spec returns)
+rest-times-spec = tie.close (tie.spec (λ c κs. tt) returns)

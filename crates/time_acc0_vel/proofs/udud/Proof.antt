@@ -10,17 +10,9 @@ returns c = rw (← c .before .before .outside .ensures, c .before .if1 .taken) 
 returns-2 : tie.Need-returns-2
 unfolding acc0VelUdud
 returns-2 c =
-    let times = c .before in
-    let h1 = times .before in
-    let newton = h1 .before in
-    rw (
-      ← newton .before .before .outside .ensures,
-      newton .before .if1 .left,
-      ← newton .udud-newton .ensures,
-      ← h1 .udud-h1 .ensures,
-      ← times .udud-times .ensures,
-    )
-    (c .trial-of .ensures)
+    let c1 = c .before in let c2 = c1 .before in let c3 = c2 .before in let c4 = c3 .before in
+    rw (← c4 .before .outside .ensures, c4 .if1 .left, ← c3 .udud-newton .ensures)
+    (rw (← c2 .udud-h1 .ensures, ← c1 .udud-times .ensures) (c .trial-of .ensures))
 
 pub udud-spec : {M : Type 1} → statement M
 udud-spec =

@@ -1,12 +1,11 @@
--- `udud_times` is `acc0VelUdudTimes`: the same operations in the same order. Assumes nothing.
-use mathlib.Core.Path.{refl}
+-- `udud_times` is `acc0VelUdudTimes`: the same operations on what its calls give. Assumes nothing.
 use Rattle.time_acc0_vel.specs.TimeAcc0Vel.{acc0VelUdudTimes}
 use Rattle.time_acc0_vel.proofs.udud_times.Statement.{statement}
 use Rattle.time_acc0_vel.proofs.udud_times.Tie as tie
 
 returns : tie.Need-returns
 unfolding acc0VelUdudTimes
-returns c = refl
+returns c = rw (c .times-of .ensures)
 
 pub udud-times-spec : {M : Type 1} → statement M
-udud-times-spec = tie.close (tie.spec returns)
+udud-times-spec = tie.close (tie.spec (λ c κs. tt) returns)

@@ -10,15 +10,9 @@ returns c = rw (← c .before .before .outside .ensures, c .before .if1 .taken) 
 returns-2 : tie.Need-returns-2
 unfolding acc1VelUdud
 returns-2 c =
-    let times = c .before in
-    let h1 = times .before in
-    rw (
-      ← h1 .before .before .outside .ensures,
-      h1 .before .if1 .left,
-      ← h1 .udud-h1 .ensures,
-      ← times .udud-times .ensures,
-    )
-    (c .trial-of .ensures)
+    let c1 = c .before in let c2 = c1 .before in let c3 = c2 .before in
+    rw (← c3 .before .outside .ensures, c3 .if1 .left)
+    (rw (← c2 .udud-h1 .ensures, ← c1 .udud-times .ensures) (c .trial-of .ensures))
 
 pub udud-spec : {M : Type 1} → statement M
 udud-spec = tie.close (tie.spec (λ c κs. tt) (λ c κs. tt) returns (λ c κs. tt) (λ c κs. tt) (λ c κs. tt) returns-2)
