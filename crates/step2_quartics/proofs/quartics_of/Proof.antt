@@ -3,24 +3,13 @@ use borrow.Author.Needs.{needs}
 use Rattle.step2_quartics.proofs.quartics_of.Statement.{statement}
 use Rattle.step2_quartics.proofs.quartics_of.Tie as tie
 
-returns : tie.Need-returns
-returns c = rw (c .before .enum-told .given .1) (c .acc1-vel-quartics .ensures)
-
-returns-2 : tie.Need-returns-2
-returns-2 c = rw (c .before .enum-told2 .given .1) (c .acc0-vel-quartics .ensures)
-
-returns-3 : tie.Need-returns-3
-returns-3 c = rw (c .before .enum-told3 .given .1) (c .no-quartics .ensures)
-
-returns-4 : tie.Need-returns-4
-returns-4 c = rw (c .before .enum-told4 .given .1) (c .no-quartics2 .ensures)
-
-returns-5 : tie.Need-returns-5
-returns-5 c = rw (c .before .enum-told5 .given .1) (c .no-quartics3 .ensures)
-
 pub quartics-of-spec : {M : Type 1} → statement M
 quartics-of-spec =
     tie.close
     (tie.spec (λ c. search needs) (λ c κs. tt) (λ c. search needs) (λ c κs. tt) (λ c. search needs) (λ c κs. tt)
-    (λ c. search needs) (λ c κs. tt) (λ c. search needs) (λ c κs. tt) returns returns-2 returns-3 returns-4
-    returns-5)
+    (λ c. search needs) (λ c κs. tt) (λ c. search needs) (λ c κs. tt)
+    (λ c. rw (c .before .enum-told .given .1) (c .acc1-vel-quartics .ensures))
+    (λ c. rw (c .before .enum-told2 .given .1) (c .acc0-vel-quartics .ensures))
+    (λ c. rw (c .before .enum-told3 .given .1) (c .no-quartics .ensures))
+    (λ c. rw (c .before .enum-told4 .given .1) (c .no-quartics2 .ensures))
+    (λ c. rw (c .before .enum-told5 .given .1) (c .no-quartics3 .ensures)))

@@ -3,8 +3,5 @@ use mathlib.Core.Path.{refl}
 use Rattle.step2_solver.proofs.outside.Statement.{statement}
 use Rattle.step2_solver.proofs.outside.Tie as tie
 
-returns : tie.Need-returns
-returns c = refl
-
 pub outside-spec : {M : Type 1} → statement M
-outside-spec = tie.close (tie.spec returns)
+outside-spec = tie.close (tie.spec (λ c. refl))

@@ -3,9 +3,6 @@ use Rattle.time_acc0.specs.TimeAcc0.{acc0FirstTimes}
 use Rattle.time_acc0.proofs.first_times.Statement.{statement}
 use Rattle.time_acc0.proofs.first_times.Tie as tie
 
-returns : tie.Need-returns
-unfolding acc0FirstTimes
-returns c = rw (c .times-of .ensures)
-
 pub first-times-spec : {M : Type 1} → statement M
-first-times-spec = tie.close (tie.spec (λ c κs. tt) returns)
+unfolding acc0FirstTimes
+first-times-spec = tie.close (tie.spec (λ c κs. tt) (λ c. rw (c .times-of .ensures)))

@@ -3,9 +3,6 @@ use Rattle.time_acc0.specs.TimeAcc0.{acc0SecondH0}
 use Rattle.time_acc0.proofs.second_h0.Statement.{statement}
 use Rattle.time_acc0.proofs.second_h0.Tie as tie
 
-returns : tie.Need-returns
-unfolding acc0SecondH0
-returns c = rw (c .sqrt .ensures, c .before .abs .ensures)
-
 pub second-h0-spec : {M : Type 1} → statement M
-second-h0-spec = tie.close (tie.spec (λ c κs. tt) (λ c κs. tt) returns)
+unfolding acc0SecondH0
+second-h0-spec = tie.close (tie.spec (λ c κs. tt) (λ c κs. tt) (λ c. rw (c .sqrt .ensures, c .before .abs .ensures)))

@@ -4,9 +4,6 @@ use Rattle.time_acc0.specs.TimeAcc0.{acc0SecondH0a}
 use Rattle.time_acc0.proofs.second_h0a.Statement.{statement}
 use Rattle.time_acc0.proofs.second_h0a.Tie as tie
 
-returns : tie.Need-returns
-unfolding acc0SecondH0a
-returns c = refl
-
 pub second-h0a-spec : {M : Type 1} → statement M
-second-h0a-spec = tie.close (tie.spec returns)
+unfolding acc0SecondH0a
+second-h0a-spec = tie.close (tie.spec (λ c. refl))

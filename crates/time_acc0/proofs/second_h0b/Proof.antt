@@ -5,9 +5,6 @@ use Rattle.time_acc0.specs.TimeAcc0.{acc0SecondH0b}
 use Rattle.time_acc0.proofs.second_h0b.Statement.{statement}
 use Rattle.time_acc0.proofs.second_h0b.Tie as tie
 
-returns : tie.Need-returns
-unfolding acc0SecondH0b neg ofBits
-returns c = refl
-
 pub second-h0b-spec : {M : Type 1} → statement M
-second-h0b-spec = tie.close (tie.spec returns)
+unfolding acc0SecondH0b neg ofBits
+second-h0b-spec = tie.close (tie.spec (λ c. refl))

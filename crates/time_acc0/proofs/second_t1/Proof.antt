@@ -5,9 +5,6 @@ use Rattle.time_acc0.specs.TimeAcc0.{acc0SecondT1}
 use Rattle.time_acc0.proofs.second_t1.Statement.{statement}
 use Rattle.time_acc0.proofs.second_t1.Tie as tie
 
-returns : tie.Need-returns
-unfolding acc0SecondT1 neg ofBits
-returns c = refl
-
 pub second-t1-spec : {M : Type 1} → statement M
-second-t1-spec = tie.close (tie.spec returns)
+unfolding acc0SecondT1 neg ofBits
+second-t1-spec = tie.close (tie.spec (λ c. refl))

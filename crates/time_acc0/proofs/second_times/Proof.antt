@@ -3,9 +3,6 @@ use Rattle.time_acc0.specs.TimeAcc0.{acc0SecondTimes}
 use Rattle.time_acc0.proofs.second_times.Statement.{statement}
 use Rattle.time_acc0.proofs.second_times.Tie as tie
 
-returns : tie.Need-returns
-unfolding acc0SecondTimes
-returns c = rw (c .times-of .ensures)
-
 pub second-times-spec : {M : Type 1} → statement M
-second-times-spec = tie.close (tie.spec (λ c κs. tt) returns)
+unfolding acc0SecondTimes
+second-times-spec = tie.close (tie.spec (λ c κs. tt) (λ c. rw (c .times-of .ensures)))

@@ -4,9 +4,6 @@ use Rattle.time_acc0.specs.TimeAcc0.{acc0ThirdH0b}
 use Rattle.time_acc0.proofs.third_h0b.Statement.{statement}
 use Rattle.time_acc0.proofs.third_h0b.Tie as tie
 
-returns : tie.Need-returns
-unfolding acc0ThirdH0b
-returns c = refl
-
 pub third-h0b-spec : {M : Type 1} → statement M
-third-h0b-spec = tie.close (tie.spec returns)
+unfolding acc0ThirdH0b
+third-h0b-spec = tie.close (tie.spec (λ c. refl))

@@ -3,9 +3,6 @@ use Rattle.time_acc0.specs.TimeAcc0.{acc0ThirdTimes}
 use Rattle.time_acc0.proofs.third_times.Statement.{statement}
 use Rattle.time_acc0.proofs.third_times.Tie as tie
 
-returns : tie.Need-returns
-unfolding acc0ThirdTimes
-returns c = rw (c .times-of .ensures)
-
 pub third-times-spec : {M : Type 1} → statement M
-third-times-spec = tie.close (tie.spec (λ c κs. tt) returns)
+unfolding acc0ThirdTimes
+third-times-spec = tie.close (tie.spec (λ c κs. tt) (λ c. rw (c .times-of .ensures)))

@@ -4,9 +4,6 @@ use Rattle.time_acc0_acc1.specs.TimeAcc0Acc1.{acc0Acc1RestH2}
 use Rattle.time_acc0_acc1.proofs.rest_h2.Statement.{statement}
 use Rattle.time_acc0_acc1.proofs.rest_h2.Tie as tie
 
-returns : tie.Need-returns
-unfolding acc0Acc1RestH2
-returns c = refl
-
 pub rest-h2-spec : {M : Type 1} → statement M
-rest-h2-spec = tie.close (tie.spec returns)
+unfolding acc0Acc1RestH2
+rest-h2-spec = tie.close (tie.spec (λ c. refl))

@@ -5,9 +5,6 @@ use Rattle.time_acc0_acc1.specs.TimeAcc0Acc1.{acc0Acc1RestT1}
 use Rattle.time_acc0_acc1.proofs.rest_t1.Statement.{statement}
 use Rattle.time_acc0_acc1.proofs.rest_t1.Tie as tie
 
-returns : tie.Need-returns
-unfolding acc0Acc1RestT1 neg ofBits
-returns c = refl
-
 pub rest-t1-spec : {M : Type 1} → statement M
-rest-t1-spec = tie.close (tie.spec returns)
+unfolding acc0Acc1RestT1 neg ofBits
+rest-t1-spec = tie.close (tie.spec (λ c. refl))

@@ -3,9 +3,6 @@ use Rattle.time_acc0_acc1.specs.TimeAcc0Acc1.{acc0Acc1RestTimes}
 use Rattle.time_acc0_acc1.proofs.rest_times.Statement.{statement}
 use Rattle.time_acc0_acc1.proofs.rest_times.Tie as tie
 
-returns : tie.Need-returns
-unfolding acc0Acc1RestTimes
-returns c = rw (c .times-of .ensures)
-
 pub rest-times-spec : {M : Type 1} → statement M
-rest-times-spec = tie.close (tie.spec (λ c κs. tt) returns)
+unfolding acc0Acc1RestTimes
+rest-times-spec = tie.close (tie.spec (λ c κs. tt) (λ c. rw (c .times-of .ensures)))

@@ -3,9 +3,7 @@ use Rattle.time_acc0_acc1.specs.TimeAcc0Acc1.{acc0Acc1UdduH1}
 use Rattle.time_acc0_acc1.proofs.uddu_h1.Statement.{statement}
 use Rattle.time_acc0_acc1.proofs.uddu_h1.Tie as tie
 
-returns : tie.Need-returns
-unfolding acc0Acc1UdduH1
-returns c = rw (c .sqrt .ensures, c .before .uddu-radicand .ensures)
-
 pub uddu-h1-spec : {M : Type 1} → statement M
-uddu-h1-spec = tie.close (tie.spec (λ c κs. tt) (λ c κs. tt) returns)
+unfolding acc0Acc1UdduH1
+uddu-h1-spec =
+    tie.close (tie.spec (λ c κs. tt) (λ c κs. tt) (λ c. rw (c .sqrt .ensures, c .before .uddu-radicand .ensures)))

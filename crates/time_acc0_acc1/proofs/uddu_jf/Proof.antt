@@ -4,9 +4,6 @@ use Rattle.time_acc0_acc1.specs.TimeAcc0Acc1.{acc0Acc1UdduJf}
 use Rattle.time_acc0_acc1.proofs.uddu_jf.Statement.{statement}
 use Rattle.time_acc0_acc1.proofs.uddu_jf.Tie as tie
 
-returns : tie.Need-returns
-unfolding acc0Acc1UdduJf
-returns c = refl
-
 pub uddu-jf-spec : {M : Type 1} → statement M
-uddu-jf-spec = tie.close (tie.spec returns)
+unfolding acc0Acc1UdduJf
+uddu-jf-spec = tie.close (tie.spec (λ c. refl))

@@ -5,9 +5,6 @@ use Rattle.time_acc0_acc1.specs.TimeAcc0Acc1.{acc0Acc1UdduRadicand}
 use Rattle.time_acc0_acc1.proofs.uddu_radicand.Statement.{statement}
 use Rattle.time_acc0_acc1.proofs.uddu_radicand.Tie as tie
 
-returns : tie.Need-returns
-unfolding acc0Acc1UdduRadicand neg ofBits
-returns c = refl
-
 pub uddu-radicand-spec : {M : Type 1} → statement M
-uddu-radicand-spec = tie.close (tie.spec returns)
+unfolding acc0Acc1UdduRadicand neg ofBits
+uddu-radicand-spec = tie.close (tie.spec (λ c. refl))

@@ -3,9 +3,6 @@ use Rattle.time_acc0_acc1.specs.TimeAcc0Acc1.{acc0Acc1UdduTimes}
 use Rattle.time_acc0_acc1.proofs.uddu_times.Statement.{statement}
 use Rattle.time_acc0_acc1.proofs.uddu_times.Tie as tie
 
-returns : tie.Need-returns
-unfolding acc0Acc1UdduTimes
-returns c = rw (c .times-of .ensures)
-
 pub uddu-times-spec : {M : Type 1} → statement M
-uddu-times-spec = tie.close (tie.spec (λ c κs. tt) returns)
+unfolding acc0Acc1UdduTimes
+uddu-times-spec = tie.close (tie.spec (λ c κs. tt) (λ c. rw (c .times-of .ensures)))

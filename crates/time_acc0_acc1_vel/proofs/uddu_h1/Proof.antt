@@ -3,9 +3,9 @@ use Rattle.time_acc0_acc1_vel.specs.TimeAcc0Acc1Vel.{acc0Acc1VelUdduH1}
 use Rattle.time_acc0_acc1_vel.proofs.uddu_h1.Statement.{statement}
 use Rattle.time_acc0_acc1_vel.proofs.uddu_h1.Tie as tie
 
-returns : tie.Need-returns
-unfolding acc0Acc1VelUdduH1
-returns c = rw (c .abs .ensures, c .before .sqrt .ensures, c .before .before .uddu-radicand .ensures)
-
 pub uddu-h1-spec : {M : Type 1} → statement M
-uddu-h1-spec = tie.close (tie.spec (λ c κs. tt) (λ c κs. tt) (λ c κs. tt) returns)
+unfolding acc0Acc1VelUdduH1
+uddu-h1-spec =
+    tie.close
+    (tie.spec (λ c κs. tt) (λ c κs. tt) (λ c κs. tt)
+    (λ c. rw (c .abs .ensures, c .before .sqrt .ensures, c .before .before .uddu-radicand .ensures)))

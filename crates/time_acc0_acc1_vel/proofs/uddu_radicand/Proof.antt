@@ -5,9 +5,6 @@ use Rattle.time_acc0_acc1_vel.specs.TimeAcc0Acc1Vel.{acc0Acc1VelUdduRadi
 use Rattle.time_acc0_acc1_vel.proofs.uddu_radicand.Statement.{statement}
 use Rattle.time_acc0_acc1_vel.proofs.uddu_radicand.Tie as tie
 
-returns : tie.Need-returns
-unfolding acc0Acc1VelUdduRadicand
-returns c = refl
-
 pub uddu-radicand-spec : {M : Type 1} → statement M
-uddu-radicand-spec = tie.close (tie.spec returns)
+unfolding acc0Acc1VelUdduRadicand
+uddu-radicand-spec = tie.close (tie.spec (λ c. refl))

@@ -4,9 +4,6 @@ use Rattle.time_acc0_acc1_vel.specs.TimeAcc0Acc1Vel.{acc0Acc1VelUdduT1}
 use Rattle.time_acc0_acc1_vel.proofs.uddu_t1.Statement.{statement}
 use Rattle.time_acc0_acc1_vel.proofs.uddu_t1.Tie as tie
 
-returns : tie.Need-returns
-unfolding acc0Acc1VelUdduT1
-returns c = refl
-
 pub uddu-t1-spec : {M : Type 1} → statement M
-uddu-t1-spec = tie.close (tie.spec returns)
+unfolding acc0Acc1VelUdduT1
+uddu-t1-spec = tie.close (tie.spec (λ c. refl))

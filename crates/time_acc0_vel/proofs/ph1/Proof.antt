@@ -4,9 +4,6 @@ use Rattle.time_acc0_vel.specs.TimeAcc0Vel.{acc0VelPh1}
 use Rattle.time_acc0_vel.proofs.ph1.Statement.{statement}
 use Rattle.time_acc0_vel.proofs.ph1.Tie as tie
 
-returns : tie.Need-returns
-unfolding acc0VelPh1
-returns c = refl
-
 pub ph1-spec : {M : Type 1} → statement M
-ph1-spec = tie.close (tie.spec returns)
+unfolding acc0VelPh1
+ph1-spec = tie.close (tie.spec (λ c. refl))

@@ -3,9 +3,7 @@ use Rattle.time_acc0_vel.specs.TimeAcc0Vel.{acc0VelTooShort}
 use Rattle.time_acc0_vel.proofs.too_short.Statement.{statement}
 use Rattle.time_acc0_vel.proofs.too_short.Tie as tie
 
-returns : tie.Need-returns
-unfolding acc0VelTooShort
-returns c = rw (c .before .max2 .ensures, c .before .before .max .ensures)
-
 pub too-short-spec : {M : Type 1} → statement M
-too-short-spec = tie.close (tie.spec (λ c κs. tt) (λ c κs. tt) returns)
+unfolding acc0VelTooShort
+too-short-spec =
+    tie.close (tie.spec (λ c κs. tt) (λ c κs. tt) (λ c. rw (c .before .max2 .ensures, c .before .before .max .ensures)))

@@ -4,9 +4,6 @@ use Rattle.time_acc0_vel.specs.TimeAcc0Vel.{acc0VelUdduDeriv}
 use Rattle.time_acc0_vel.proofs.uddu_deriv.Statement.{statement}
 use Rattle.time_acc0_vel.proofs.uddu_deriv.Tie as tie
 
-returns : tie.Need-returns
-unfolding acc0VelUdduDeriv
-returns c = refl
-
 pub uddu-deriv-spec : {M : Type 1} → statement M
-uddu-deriv-spec = tie.close (tie.spec returns)
+unfolding acc0VelUdduDeriv
+uddu-deriv-spec = tie.close (tie.spec (λ c. refl))

@@ -5,9 +5,6 @@ use Rattle.time_acc0_vel.specs.TimeAcc0Vel.{acc0VelUdduPolynom}
 use Rattle.time_acc0_vel.proofs.uddu_polynom.Statement.{statement}
 use Rattle.time_acc0_vel.proofs.uddu_polynom.Tie as tie
 
-returns : tie.Need-returns
-unfolding acc0VelUdduPolynom neg ofBits
-returns c = refl
-
 pub uddu-polynom-spec : {M : Type 1} → statement M
-uddu-polynom-spec = tie.close (tie.spec returns)
+unfolding acc0VelUdduPolynom neg ofBits
+uddu-polynom-spec = tie.close (tie.spec (λ c. refl))

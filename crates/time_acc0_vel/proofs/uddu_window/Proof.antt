@@ -3,9 +3,6 @@ use Rattle.time_acc0_vel.specs.TimeAcc0Vel.{acc0VelUdduWindow, acc0VelUd
 use Rattle.time_acc0_vel.proofs.uddu_window.Statement.{statement}
 use Rattle.time_acc0_vel.proofs.uddu_window.Tie as tie
 
-returns : tie.Need-returns
-unfolding acc0VelUdduWindow acc0VelUdduTMin acc0VelUdduTMax
-returns c = rw (c .min .ensures)
-
 pub uddu-window-spec : {M : Type 1} → statement M
-uddu-window-spec = tie.close (tie.spec (λ c κs. tt) returns)
+unfolding acc0VelUdduWindow acc0VelUdduTMin acc0VelUdduTMax
+uddu-window-spec = tie.close (tie.spec (λ c κs. tt) (λ c. rw (c .min .ensures)))

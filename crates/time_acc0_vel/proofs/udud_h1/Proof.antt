@@ -4,9 +4,6 @@ use Rattle.time_acc0_vel.specs.TimeAcc0Vel.{acc0VelUdudH1}
 use Rattle.time_acc0_vel.proofs.udud_h1.Statement.{statement}
 use Rattle.time_acc0_vel.proofs.udud_h1.Tie as tie
 
-returns : tie.Need-returns
-unfolding acc0VelUdudH1
-returns c = refl
-
 pub udud-h1-spec : {M : Type 1} → statement M
-udud-h1-spec = tie.close (tie.spec returns)
+unfolding acc0VelUdudH1
+udud-h1-spec = tie.close (tie.spec (λ c. refl))

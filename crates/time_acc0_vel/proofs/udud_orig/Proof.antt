@@ -4,9 +4,6 @@ use Rattle.time_acc0_vel.specs.TimeAcc0Vel.{acc0VelUdudOrig}
 use Rattle.time_acc0_vel.proofs.udud_orig.Statement.{statement}
 use Rattle.time_acc0_vel.proofs.udud_orig.Tie as tie
 
-returns : tie.Need-returns
-unfolding acc0VelUdudOrig
-returns c = refl
-
 pub udud-orig-spec : {M : Type 1} → statement M
-udud-orig-spec = tie.close (tie.spec returns)
+unfolding acc0VelUdudOrig
+udud-orig-spec = tie.close (tie.spec (λ c. refl))

@@ -5,9 +5,6 @@ use Rattle.time_acc0_vel.specs.TimeAcc0Vel.{acc0VelUdudPolynom}
 use Rattle.time_acc0_vel.proofs.udud_polynom.Statement.{statement}
 use Rattle.time_acc0_vel.proofs.udud_polynom.Tie as tie
 
-returns : tie.Need-returns
-unfolding acc0VelUdudPolynom neg ofBits
-returns c = refl
-
 pub udud-polynom-spec : {M : Type 1} → statement M
-udud-polynom-spec = tie.close (tie.spec returns)
+unfolding acc0VelUdudPolynom neg ofBits
+udud-polynom-spec = tie.close (tie.spec (λ c. refl))

@@ -3,9 +3,6 @@ use Rattle.time_acc0_vel.specs.TimeAcc0Vel.{acc0VelUdudWindow, acc0VelUd
 use Rattle.time_acc0_vel.proofs.udud_window.Statement.{statement}
 use Rattle.time_acc0_vel.proofs.udud_window.Tie as tie
 
-returns : tie.Need-returns
-unfolding acc0VelUdudWindow acc0VelUdudTMin acc0VelUdudTMax
-returns c = rw (c .min .ensures)
-
 pub udud-window-spec : {M : Type 1} → statement M
-udud-window-spec = tie.close (tie.spec (λ c κs. tt) returns)
+unfolding acc0VelUdudWindow acc0VelUdudTMin acc0VelUdudTMax
+udud-window-spec = tie.close (tie.spec (λ c κs. tt) (λ c. rw (c .min .ensures)))

@@ -4,9 +4,6 @@ use Rattle.time_acc1_vel.specs.TimeAcc1Vel.{acc1VelUdduDeriv}
 use Rattle.time_acc1_vel.proofs.uddu_deriv.Statement.{statement}
 use Rattle.time_acc1_vel.proofs.uddu_deriv.Tie as tie
 
-returns : tie.Need-returns
-unfolding acc1VelUdduDeriv
-returns c = refl
-
 pub uddu-deriv-spec : {M : Type 1} → statement M
-uddu-deriv-spec = tie.close (tie.spec returns)
+unfolding acc1VelUdduDeriv
+uddu-deriv-spec = tie.close (tie.spec (λ c. refl))

@@ -4,9 +4,6 @@ use Rattle.time_acc1_vel.specs.TimeAcc1Vel.{acc1VelUdduPolynom}
 use Rattle.time_acc1_vel.proofs.uddu_polynom.Statement.{statement}
 use Rattle.time_acc1_vel.proofs.uddu_polynom.Tie as tie
 
-returns : tie.Need-returns
-unfolding acc1VelUdduPolynom
-returns c = refl
-
 pub uddu-polynom-spec : {M : Type 1} → statement M
-uddu-polynom-spec = tie.close (tie.spec returns)
+unfolding acc1VelUdduPolynom
+uddu-polynom-spec = tie.close (tie.spec (λ c. refl))

@@ -3,9 +3,6 @@ use Rattle.time_acc1_vel.specs.TimeAcc1Vel.{acc1VelUdduWindow, acc1VelTM
 use Rattle.time_acc1_vel.proofs.uddu_window.Statement.{statement}
 use Rattle.time_acc1_vel.proofs.uddu_window.Tie as tie
 
-returns : tie.Need-returns
-unfolding acc1VelUdduWindow acc1VelTMin acc1VelUdduTMax
-returns c = rw (c .min .ensures)
-
 pub uddu-window-spec : {M : Type 1} → statement M
-uddu-window-spec = tie.close (tie.spec (λ c κs. tt) returns)
+unfolding acc1VelUdduWindow acc1VelTMin acc1VelUdduTMax
+uddu-window-spec = tie.close (tie.spec (λ c κs. tt) (λ c. rw (c .min .ensures)))

@@ -4,9 +4,6 @@ use Rattle.time_acc1_vel.specs.TimeAcc1Vel.{acc1VelUdudH1}
 use Rattle.time_acc1_vel.proofs.udud_h1.Statement.{statement}
 use Rattle.time_acc1_vel.proofs.udud_h1.Tie as tie
 
-returns : tie.Need-returns
-unfolding acc1VelUdudH1
-returns c = refl
-
 pub udud-h1-spec : {M : Type 1} → statement M
-udud-h1-spec = tie.close (tie.spec returns)
+unfolding acc1VelUdudH1
+udud-h1-spec = tie.close (tie.spec (λ c. refl))

@@ -4,9 +4,6 @@ use Rattle.time_acc1_vel.specs.TimeAcc1Vel.{acc1VelUdudPolynom}
 use Rattle.time_acc1_vel.proofs.udud_polynom.Statement.{statement}
 use Rattle.time_acc1_vel.proofs.udud_polynom.Tie as tie
 
-returns : tie.Need-returns
-unfolding acc1VelUdudPolynom
-returns c = refl
-
 pub udud-polynom-spec : {M : Type 1} → statement M
-udud-polynom-spec = tie.close (tie.spec returns)
+unfolding acc1VelUdudPolynom
+udud-polynom-spec = tie.close (tie.spec (λ c. refl))

@@ -3,9 +3,6 @@ use Rattle.time_acc1_vel.specs.TimeAcc1Vel.{acc1VelUdudTimes}
 use Rattle.time_acc1_vel.proofs.udud_times.Statement.{statement}
 use Rattle.time_acc1_vel.proofs.udud_times.Tie as tie
 
-returns : tie.Need-returns
-unfolding acc1VelUdudTimes
-returns c = rw (c .times-of .ensures)
-
 pub udud-times-spec : {M : Type 1} → statement M
-udud-times-spec = tie.close (tie.spec (λ c κs. tt) returns)
+unfolding acc1VelUdudTimes
+udud-times-spec = tie.close (tie.spec (λ c κs. tt) (λ c. rw (c .times-of .ensures)))

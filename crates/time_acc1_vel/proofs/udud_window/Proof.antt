@@ -3,9 +3,6 @@ use Rattle.time_acc1_vel.specs.TimeAcc1Vel.{acc1VelUdudWindow, acc1VelTM
 use Rattle.time_acc1_vel.proofs.udud_window.Statement.{statement}
 use Rattle.time_acc1_vel.proofs.udud_window.Tie as tie
 
-returns : tie.Need-returns
-unfolding acc1VelUdudWindow acc1VelTMin acc1VelUdudTMax
-returns c = rw (c .min .ensures)
-
 pub udud-window-spec : {M : Type 1} → statement M
-udud-window-spec = tie.close (tie.spec (λ c κs. tt) returns)
+unfolding acc1VelUdudWindow acc1VelTMin acc1VelUdudTMax
+udud-window-spec = tie.close (tie.spec (λ c κs. tt) (λ c. rw (c .min .ensures)))
