@@ -1,4 +1,4 @@
-// Expressions of `time_acc0`, by the Rust's names, in its order.
+// position_third_step2.rs, `time_acc0`: its expressions and attempts, by the Rust's names, in its order.
 
 use labels::ControlSigns;
 use labels::ReachedLimits;

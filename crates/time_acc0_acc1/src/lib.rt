@@ -1,4 +1,4 @@
-// Expressions of `time_acc0_acc1`, by the Rust's names, in its order.
+// position_third_step2.rs, `time_acc0_acc1`: its expressions and attempts, by the Rust's names, in its order.
 
 use labels::ControlSigns;
 use labels::ReachedLimits;
@@ -10,9 +10,9 @@ use step2_solver::times_of;
 use step2_solver::trial_of;
 ghost use mathlib.Core.Path.{_≡_};
 ghost use Rattle.time_acc0_acc1.specs.TimeAcc0Acc1.{acc0Acc1RestApplies, acc0Acc1RestH1, acc0Acc1RestH2};
-ghost use Rattle.time_acc0_acc1.specs.TimeAcc0Acc1.{acc0Acc1RestT1, acc0Acc1RestTimes, acc0Acc1UdduRadicand};
-ghost use Rattle.time_acc0_acc1.specs.TimeAcc0Acc1.{acc0Acc1UdduH1, acc0Acc1UdduJf, acc0Acc1UdduT1};
-ghost use Rattle.time_acc0_acc1.specs.TimeAcc0Acc1.{acc0Acc1UdduTimes, acc0Acc1Rest, acc0Acc1Uddu};
+ghost use Rattle.time_acc0_acc1.specs.TimeAcc0Acc1.{acc0Acc1RestT1, acc0Acc1RestTimes, acc0Acc1UdduH1};
+ghost use Rattle.time_acc0_acc1.specs.TimeAcc0Acc1.{acc0Acc1UdduJf, acc0Acc1UdduT1, acc0Acc1UdduTimes};
+ghost use Rattle.time_acc0_acc1.specs.TimeAcc0Acc1.{acc0Acc1Rest, acc0Acc1Uddu};
 
 // `f64::EPSILON`, 2^-52.
 const EPSILON: f64 = 2.220446049250313e-16;
@@ -69,35 +69,31 @@ pub fn rest(s: PositionThirdOrderStep2, l: Limits) -> Trial
 // UDDU
 
 // v is what the Rust hands to `pow2`.
-fn uddu_radicand(s: PositionThirdOrderStep2, a_max: f64, a_min: f64) -> f64
-    ensures { λ r. ⌜ r ≡ acc0Acc1UdduRadicand s «a_max» «a_min» ⌝ }
+fn uddu_h1(s: PositionThirdOrderStep2, a_max: f64, a_min: f64) -> f64
+    ensures { λ r. ⌜ r ≡ acc0Acc1UdduH1 s «a_max» «a_min» ⌝ }
 {
     let v = (a_max - a_min) * (-a_min * s.vd + a_max * (a_min * s.tf - s.vd))
         - s.af_af * (a_max * s.tf - s.vd)
         + 2.0 * s.af * a_min * (a_max * s.tf - s.vd)
         + s.a0_a0 * (a_min * s.tf + s.v0 - s.vf)
         - 2.0 * s.a0 * a_max * (a_min * s.tf - s.vd);
-    144.0 * (v * v)
-        + 48.0
-            * s.ad
-            * (3.0 * s.a0_p3 - 3.0 * s.af_p3
-                + 12.0 * a_max * a_min * (-a_max + a_min)
-                + 4.0 * s.af_af * (a_max + 2.0 * a_min)
-                + s.a0
-                    * (-3.0 * s.af_af
-                        + 8.0 * s.af * (a_min - a_max)
-                        + 6.0 * (a_max * a_max + 2.0 * a_max * a_min - a_min * a_min))
-                + 6.0 * s.af * (a_max * a_max - 2.0 * a_max * a_min - a_min * a_min)
-                + s.a0_a0 * (3.0 * s.af - 4.0 * (2.0 * a_max + a_min)))
-            * (2.0 * a_min * s.g1
-                + s.vd * s.vd
-                + a_max * (2.0 * s.pd + a_min * s.tf * s.tf - 2.0 * s.tf * s.vf))
-}
-
-fn uddu_h1(s: PositionThirdOrderStep2, a_max: f64, a_min: f64) -> f64
-    ensures { λ r. ⌜ r ≡ acc0Acc1UdduH1 s «a_max» «a_min» ⌝ }
-{
-    sqrt::sqrt(uddu_radicand(s, a_max, a_min))
+    sqrt::sqrt(
+        144.0 * (v * v)
+            + 48.0
+                * s.ad
+                * (3.0 * s.a0_p3 - 3.0 * s.af_p3
+                    + 12.0 * a_max * a_min * (-a_max + a_min)
+                    + 4.0 * s.af_af * (a_max + 2.0 * a_min)
+                    + s.a0
+                        * (-3.0 * s.af_af
+                            + 8.0 * s.af * (a_min - a_max)
+                            + 6.0 * (a_max * a_max + 2.0 * a_max * a_min - a_min * a_min))
+                    + 6.0 * s.af * (a_max * a_max - 2.0 * a_max * a_min - a_min * a_min)
+                    + s.a0_a0 * (3.0 * s.af - 4.0 * (2.0 * a_max + a_min)))
+                * (2.0 * a_min * s.g1
+                    + s.vd * s.vd
+                    + a_max * (2.0 * s.pd + a_min * s.tf * s.tf - 2.0 * s.tf * s.vf)),
+    )
 }
 
 fn uddu_jf(s: PositionThirdOrderStep2, a_max: f64, a_min: f64, h1: f64) -> f64

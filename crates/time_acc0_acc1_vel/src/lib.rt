@@ -1,4 +1,4 @@
-// Expressions of `time_acc0_acc1_vel`, by the Rust's names, in its order.
+// position_third_step2.rs, `time_acc0_acc1_vel`: its expressions and attempts, by the Rust's names, in its order.
 
 use labels::ControlSigns;
 use labels::ReachedLimits;
@@ -10,43 +10,40 @@ use step2_solver::no_trial;
 use step2_solver::times_of;
 use step2_solver::trial_of;
 ghost use mathlib.Core.Path.{_≡_};
-ghost use Rattle.time_acc0_acc1_vel.specs.TimeAcc0Acc1Vel.{acc0Acc1VelUdduRadicand, acc0Acc1VelUdduH1};
-ghost use Rattle.time_acc0_acc1_vel.specs.TimeAcc0Acc1Vel.{acc0Acc1VelUdduT1, acc0Acc1VelUdduTimes};
-ghost use Rattle.time_acc0_acc1_vel.specs.TimeAcc0Acc1Vel.{acc0Acc1VelUdudT1, acc0Acc1VelUdudT3};
-ghost use Rattle.time_acc0_acc1_vel.specs.TimeAcc0Acc1Vel.{acc0Acc1VelUdudTimes, acc0Acc1VelUddu};
-ghost use Rattle.time_acc0_acc1_vel.specs.TimeAcc0Acc1Vel.{acc0Acc1VelUdud};
+ghost use Rattle.time_acc0_acc1_vel.specs.TimeAcc0Acc1Vel.{acc0Acc1VelUdduH1, acc0Acc1VelUdduT1};
+ghost use Rattle.time_acc0_acc1_vel.specs.TimeAcc0Acc1Vel.{acc0Acc1VelUdduTimes, acc0Acc1VelUdudT1};
+ghost use Rattle.time_acc0_acc1_vel.specs.TimeAcc0Acc1Vel.{acc0Acc1VelUdudT3, acc0Acc1VelUdudTimes};
+ghost use Rattle.time_acc0_acc1_vel.specs.TimeAcc0Acc1Vel.{acc0Acc1VelUddu, acc0Acc1VelUdud};
 
 // Profile UDDU, Solution 1
-
-fn uddu_radicand(s: PositionThirdOrderStep2, a_max: f64, a_min: f64, j_max: f64) -> f64
-    ensures { λ r. ⌜ r ≡ acc0Acc1VelUdduRadicand s «a_max» «a_min» «j_max» ⌝ }
-{
-    (s.a0_p4 + s.af_p4
-        - 4.0 * s.a0_p3 * (2.0 * a_max + a_min) / 3.0
-        - 4.0 * s.af_p3 * (a_max + 2.0 * a_min) / 3.0
-        + 2.0 * (s.a0_a0 - s.af_af) * a_max * a_max
-        + (4.0 * s.a0 * a_max - 2.0 * s.a0_a0)
-            * (s.af_af - 2.0 * s.af * a_min
-                + (a_min - a_max) * a_min
-                + 2.0 * j_max * (a_min * s.tf - s.vd))
-        + 2.0 * s.af_af * (a_min * a_min + 2.0 * j_max * (a_max * s.tf - s.vd))
-        + 4.0
-            * j_max
-            * (2.0 * a_min * (s.af * s.vd + j_max * s.g1)
-                + (a_max * a_max - a_min * a_min) * s.vd
-                + j_max * s.vd_vd)
-        + 8.0 * a_max * s.j_max_j_max * (s.pd - s.tf * s.vf))
-        / (a_max * a_min)
-        + 4.0 * s.af_af
-        + 2.0 * s.a0_a0
-        + (4.0 * s.af + a_max - a_min) * (a_max - a_min)
-        + 4.0 * j_max * (a_min - a_max + j_max * s.tf - 2.0 * s.af) * s.tf
-}
 
 fn uddu_h1(s: PositionThirdOrderStep2, a_max: f64, a_min: f64, j_max: f64) -> f64
     ensures { λ r. ⌜ r ≡ acc0Acc1VelUdduH1 s «a_max» «a_min» «j_max» ⌝ }
 {
-    sqrt::sqrt(uddu_radicand(s, a_max, a_min, j_max)) * float::abs(j_max) / j_max
+    sqrt::sqrt(
+        (s.a0_p4 + s.af_p4
+            - 4.0 * s.a0_p3 * (2.0 * a_max + a_min) / 3.0
+            - 4.0 * s.af_p3 * (a_max + 2.0 * a_min) / 3.0
+            + 2.0 * (s.a0_a0 - s.af_af) * a_max * a_max
+            + (4.0 * s.a0 * a_max - 2.0 * s.a0_a0)
+                * (s.af_af - 2.0 * s.af * a_min
+                    + (a_min - a_max) * a_min
+                    + 2.0 * j_max * (a_min * s.tf - s.vd))
+            + 2.0 * s.af_af * (a_min * a_min + 2.0 * j_max * (a_max * s.tf - s.vd))
+            + 4.0
+                * j_max
+                * (2.0 * a_min * (s.af * s.vd + j_max * s.g1)
+                    + (a_max * a_max - a_min * a_min) * s.vd
+                    + j_max * s.vd_vd)
+            + 8.0 * a_max * s.j_max_j_max * (s.pd - s.tf * s.vf))
+            / (a_max * a_min)
+            + 4.0 * s.af_af
+            + 2.0 * s.a0_a0
+            + (4.0 * s.af + a_max - a_min) * (a_max - a_min)
+            + 4.0 * j_max * (a_min - a_max + j_max * s.tf - 2.0 * s.af) * s.tf,
+    )
+        * float::abs(j_max)
+        / j_max
 }
 
 fn uddu_t1(s: PositionThirdOrderStep2, a_max: f64, a_min: f64, j_max: f64, h1: f64) -> f64
