@@ -9,8 +9,8 @@ use lib.ListN.{length}
 use Rattle.hex.specs.Hex.{allDigits, bytesOf}
 use Rattle.step2_solver.specs.declared.Shape.{Shape}
 use Rattle.step2_solver.specs.New.{solverOf, limitsOf}
-use Rattle.step2_solver_quartic.specs.declared.Quartics.{Quartics}
-use Rattle.step2_solver_quartic.specs.Quartics.{quarticsOf}
+use Rattle.step2_quartics.specs.declared.Quartics.{Quartics}
+use Rattle.step2_quartics.specs.Quartics.{quarticsOf}
 use Rattle.line_kinds.specs.declared.Asks.{Asks}
 use Rattle.line_kinds.specs.declared.Asks.the-variants.{NoKind, OfCheck, OfShape, OfQuartics}
 use Rattle.line_kinds.specs.declared.Row.{Row}

@@ -8,7 +8,7 @@ use lib.Ieee.{Float, nan}
 use Rattle.roots.specs.declared.Need.{Need}
 use Rattle.roots.specs.declared.Need.the-variants.{Nothing, Cube, Resolvent}
 use Rattle.roots.specs.Quartic.{needOf}
-use Rattle.step2_solver_quartic.specs.declared.Quartics.{Quartics}
+use Rattle.step2_quartics.specs.declared.Quartics.{Quartics}
 
 -- 0 is a cube root, 1 to 3 a resolvent's count
 abbrev pub suits : Need → ℕ → Bool

@@ -2,7 +2,7 @@
 use mathlib.Core.List.{List, _++_}
 use Prim.Native.Nat.{ℕ}
 use Rattle.step2_solver.specs.declared.Shape.{Shape}
-use Rattle.step2_solver_quartic.specs.declared.Quartics.{Quartics}
+use Rattle.step2_quartics.specs.declared.Quartics.{Quartics}
 use Rattle.line_frame.specs.Frame.{Frame}
 use Rattle.line_questions.specs.Questions.{quarticsAt}
 use Rattle.line_reply.specs.Reply.{quarticBytes}

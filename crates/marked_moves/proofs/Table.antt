@@ -17,12 +17,12 @@ use Rattle.phases.specs.Phase.{replacedOf, zeroInsideOf, nodeOf, phaseOf}
 use Rattle.profile.specs.Check.{arrivedOf, keptOf, checkOf}
 use Rattle.profile.specs.Boundary.{boundaryOf}
 use Rattle.step2_solver.specs.New.{newOf}
-use Rattle.step2_solver.specs.TimeAcc0Acc1Vel.{acc0Acc1VelUdduApplies, acc0Acc1VelUdduRadicand, acc0Acc1VelUdduH1}
-use Rattle.step2_solver.specs.TimeAcc0Acc1Vel.{acc0Acc1VelUdduT1, acc0Acc1VelUdduTimes, acc0Acc1VelUddu}
-use Rattle.step2_solver.specs.TimeAcc0Acc1Vel.{acc0Acc1VelUdudApplies, acc0Acc1VelUdudT1, acc0Acc1VelUdudT3}
-use Rattle.step2_solver.specs.TimeAcc0Acc1Vel.{acc0Acc1VelUdudTimes, acc0Acc1VelUdud}
-use Rattle.step2_solver.specs.TimeAcc0Acc1.{acc0Acc1RestApplies, acc0Acc1RestH1, acc0Acc1RestH2, acc0Acc1RestJf}
-use Rattle.step2_solver.specs.TimeAcc0Acc1.{acc0Acc1RestT1, acc0Acc1RestTimes, acc0Acc1Rest}
+use Rattle.time_acc0_acc1_vel.specs.TimeAcc0Acc1Vel.{acc0Acc1VelUdduApplies, acc0Acc1VelUdduRadicand, acc0Acc1VelUdduH1}
+use Rattle.time_acc0_acc1_vel.specs.TimeAcc0Acc1Vel.{acc0Acc1VelUdduT1, acc0Acc1VelUdduTimes, acc0Acc1VelUddu}
+use Rattle.time_acc0_acc1_vel.specs.TimeAcc0Acc1Vel.{acc0Acc1VelUdudApplies, acc0Acc1VelUdudT1, acc0Acc1VelUdudT3}
+use Rattle.time_acc0_acc1_vel.specs.TimeAcc0Acc1Vel.{acc0Acc1VelUdudTimes, acc0Acc1VelUdud}
+use Rattle.time_acc0_acc1.specs.TimeAcc0Acc1.{acc0Acc1RestApplies, acc0Acc1RestH1, acc0Acc1RestH2, acc0Acc1RestJf}
+use Rattle.time_acc0_acc1.specs.TimeAcc0Acc1.{acc0Acc1RestT1, acc0Acc1RestTimes, acc0Acc1Rest}
 use Rattle.step2_attempt.specs.Attempt.{attemptOf, tryOf, triedOf}
 use Rattle.line_kinds.specs.Kinds.{rowOf}
 use Rattle.line_frame.specs.Frame.{wordAt}

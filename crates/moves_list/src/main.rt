@@ -26,9 +26,9 @@ use profile::Checked;
 use profile::Profile;
 use profile::in_place::Verdict;
 use roots::RootAnswer;
+use step2_quartics::quartics_of;
 use step2_solver::Move;
 use step2_solver::Shape;
-use step2_solver_quartic::quartics_of;
 
 fn send_record(c: Checked) -> bool {
     let q = c.profile;

@@ -28,7 +28,7 @@ use Rattle.step2_solver.specs.declared.PositionThirdOrderStep2.{PositionThirdOr
 use Rattle.step2_solver.specs.declared.Limits.{Limits}
 use Rattle.step2_solver.specs.declared.Shape.{Shape}
 use Rattle.step2_solver.specs.declared.Trial.{Trial}
-use Rattle.step2_solver_quartic.specs.declared.Quartics.{Quartics}
+use Rattle.step2_quartics.specs.declared.Quartics.{Quartics}
 use Rattle.step2_attempt.specs.Attempt.{attemptOf, tryOf, triedOf}
 use Rattle.position_third_step2.specs.Shape.{attemptsOf, shapeOf}
 

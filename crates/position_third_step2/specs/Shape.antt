@@ -14,14 +14,14 @@ use Rattle.step2_solver.specs.declared.Limits.{Limits}
 use Rattle.step2_solver.specs.declared.Trial.{Trial}
 use Rattle.step2_solver.specs.declared.Shape.{Shape}
 use Rattle.step2_solver.specs.declared.Shape.the-variants.{Acc0Acc1Vel, Acc1Vel, Acc0Vel, Acc0Acc1, Acc0}
-use Rattle.step2_solver.specs.TimeAcc0Acc1Vel.{acc0Acc1VelUddu, acc0Acc1VelUdud}
-use Rattle.step2_solver.specs.TimeAcc0Acc1.{acc0Acc1RestApplies, acc0Acc1Rest, acc0Acc1Uddu}
-use Rattle.step2_solver.specs.TimeAcc0.{acc0First, acc0Second, acc0Third}
-use Rattle.step2_solver_quartic.specs.declared.Quartics.{Quartics}
-use Rattle.step2_solver_quartic.specs.TimeAcc1Vel.{acc1VelUdduWindow, acc1VelUddu, acc1VelUdudWindow, acc1VelUdud}
-use Rattle.step2_solver_quartic.specs.TimeAcc0Vel.{acc0VelTooShort}
-use Rattle.step2_solver_quartic.specs.TimeAcc0Vel.{acc0VelUdduWindow, acc0VelUddu, acc0VelUdudWindow, acc0VelUdud}
-use Rattle.step2_solver_quartic.specs.Quartics.{quarticsOf}
+use Rattle.time_acc0_acc1_vel.specs.TimeAcc0Acc1Vel.{acc0Acc1VelUddu, acc0Acc1VelUdud}
+use Rattle.time_acc0_acc1.specs.TimeAcc0Acc1.{acc0Acc1RestApplies, acc0Acc1Rest, acc0Acc1Uddu}
+use Rattle.time_acc0.specs.TimeAcc0.{acc0First, acc0Second, acc0Third}
+use Rattle.step2_quartics.specs.declared.Quartics.{Quartics}
+use Rattle.time_acc1_vel.specs.TimeAcc1Vel.{acc1VelUdduWindow, acc1VelUddu, acc1VelUdudWindow, acc1VelUdud}
+use Rattle.time_acc0_vel.specs.TimeAcc0Vel.{acc0VelTooShort}
+use Rattle.time_acc0_vel.specs.TimeAcc0Vel.{acc0VelUdduWindow, acc0VelUddu, acc0VelUdudWindow, acc0VelUdud}
+use Rattle.step2_quartics.specs.Quartics.{quarticsOf}
 use Rattle.step2_attempt.specs.Attempt.{triedOf}
 
 -- an attempt at each root of a quartic, from the smallest on

@@ -10,15 +10,15 @@ use in_place::ask;
 use profile::Checked;
 use profile::Profile;
 use roots::RootAnswer;
+use step2_quartics::quartics_of;
 use step2_solver::Limits;
 use step2_solver::PositionThirdOrderStep2;
 use step2_solver::Shape;
-use step2_solver_quartic::quartics_of;
 ghost use mathlib.Core.Path.{_≡_};
 ghost use Rattle.step2_solver.specs.declared.Shape.the-variants.{Acc0Acc1Vel, Acc1Vel, Acc0Vel, Acc0Acc1, Acc0};
 ghost use Rattle.position_third_step2.specs.Shape.{askedOf, limits, unasked};
 
-// Any shape by value: its arrays are taken out, lent, and put back.
+// Any shape by value: on the row of the profile.
 fn asked(
     shape: Shape,
     s: PositionThirdOrderStep2,
@@ -29,35 +29,13 @@ fn asked(
 ) -> Checked
     ensures { λ r. ⌜ r ≡ askedOf shape s l first second profile ⌝ }
 {
-    let mut t = profile.t;
-    let mut t_sum = profile.t_sum;
-    let mut j = profile.j;
-    let mut a = profile.a;
-    let mut v = profile.v;
-    let mut p = profile.p;
-    let goal = profile.goal();
-    let labels = profile.labels();
+    let mut x = profile.row();
     let q = quartics_of(shape, s, l);
-    let answer = ask(
-        shape,
-        s,
-        l,
-        q,
-        first,
-        second,
-        &mut t,
-        &mut t_sum,
-        &mut j,
-        &mut a,
-        &mut v,
-        &mut p,
-        goal,
-        labels,
-    );
+    let answer = ask(shape, s, l, q, first, second, &mut x, profile.labels());
     let now = answer.labels;
     Checked {
         ok: answer.ok,
-        profile: Profile::from_parts(t, t_sum, j, a, v, p, goal, now),
+        profile: Profile::from_row(x, now),
     }
 }
 

@@ -12,11 +12,11 @@ use Rattle.labels.specs.Tests.{testsOf}
 use Rattle.step2_solver.specs.declared.PositionThirdOrderStep2.{PositionThirdOrderStep2}
 use Rattle.step2_solver.specs.declared.Move.{Move}
 use Rattle.step2_solver.specs.New.{solverOf}
-use Rattle.step2_solver.specs.TimeAcc0Acc1Vel.{acc0Acc1VelUdduTimes, acc0Acc1VelUdudTimes}
-use Rattle.step2_solver.specs.TimeAcc0Acc1.{acc0Acc1RestApplies, acc0Acc1RestTimes, acc0Acc1UdduT1, acc0Acc1UdduTimes}
-use Rattle.step2_solver.specs.TimeAcc0.{acc0FirstTimes, acc0SecondTimes, acc0ThirdTimes}
-use Rattle.step2_solver_quartic.specs.TimeAcc1Vel.{acc1VelUdduTimes, acc1VelUdudTimes}
-use Rattle.step2_solver_quartic.specs.TimeAcc0Vel.{acc0VelUdduTimes, acc0VelUdudTimes}
+use Rattle.time_acc0_acc1_vel.specs.TimeAcc0Acc1Vel.{acc0Acc1VelUdduTimes, acc0Acc1VelUdudTimes}
+use Rattle.time_acc0_acc1.specs.TimeAcc0Acc1.{acc0Acc1RestApplies, acc0Acc1RestTimes, acc0Acc1UdduT1, acc0Acc1UdduTimes}
+use Rattle.time_acc0.specs.TimeAcc0.{acc0FirstTimes, acc0SecondTimes, acc0ThirdTimes}
+use Rattle.time_acc1_vel.specs.TimeAcc1Vel.{acc1VelUdduTimes, acc1VelUdudTimes}
+use Rattle.time_acc0_vel.specs.TimeAcc0Vel.{acc0VelUdduTimes, acc0VelUdudTimes}
 use Rattle.step2_times.specs.Facts.{Numbers as SixNumbers}
 use Rattle.step2_times.proofs.Facts.{acc0-acc1-vel-uddu, acc0-acc1-vel-udud, acc1-vel-uddu, acc1-vel-udud}
 use Rattle.step2_times.proofs.Facts.{acc0-vel-uddu, acc0-vel-udud, acc0-acc1-rest, acc0-acc1-uddu, acc0-first}

@@ -21,9 +21,9 @@ use Rattle.step2_solver.specs.declared.Shape.{Shape}
 use Rattle.step2_solver.specs.declared.Shape.the-variants.{Acc0Acc1Vel, Acc1Vel, Acc0Vel, Acc0Acc1, Acc0}
 use Rattle.step2_solver.specs.declared.Trial.{Trial}
 use Rattle.step2_solver.specs.New.{solverOf, limitsOf}
-use Rattle.step2_solver_quartic.specs.declared.Quartics.{Quartics}
-use Rattle.step2_solver_quartic.specs.Quartics.{quarticsOf}
-use Rattle.step2_solver_quartic.specs.TimeAcc0Vel.{acc0VelTooShort}
+use Rattle.step2_quartics.specs.declared.Quartics.{Quartics}
+use Rattle.step2_quartics.specs.Quartics.{quarticsOf}
+use Rattle.time_acc0_vel.specs.TimeAcc0Vel.{acc0VelTooShort}
 use Rattle.position_third_step2.specs.Shape.{overRoots, attemptsOf, shapeOf}
 use Rattle.step2_arrives.specs.Moves.{Numbers, asked, Starts, Demand3, Closely}
 use Rattle.step2_arrives.proofs.Made.{Made}

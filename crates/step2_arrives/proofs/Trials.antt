@@ -13,21 +13,21 @@ use Rattle.step2_solver.specs.declared.Limits.{Limits}
 use Rattle.step2_solver.specs.declared.Move.{Move}
 use Rattle.step2_solver.specs.New.{solverOf, limitsOf}
 use Rattle.step2_solver.specs.Trials.{trialOf}
-use Rattle.step2_solver.specs.TimeAcc0Acc1Vel.{acc0Acc1VelUdduApplies, acc0Acc1VelUdduH1, acc0Acc1VelUdduT1}
-use Rattle.step2_solver.specs.TimeAcc0Acc1Vel.{acc0Acc1VelUdudApplies, acc0Acc1VelUdudT1, acc0Acc1VelUdudT3}
-use Rattle.step2_solver.specs.TimeAcc0Acc1Vel.{acc0Acc1VelUddu, acc0Acc1VelUdud}
-use Rattle.step2_solver.specs.TimeAcc0Acc1.{acc0Acc1RestApplies, acc0Acc1RestH1, acc0Acc1RestH2, acc0Acc1RestJf}
-use Rattle.step2_solver.specs.TimeAcc0Acc1.{acc0Acc1RestT1, acc0Acc1RestTimes, acc0Acc1UdduH1, acc0Acc1UdduJf}
-use Rattle.step2_solver.specs.TimeAcc0Acc1.{acc0Acc1Rest, acc0Acc1Uddu}
-use Rattle.step2_solver.specs.TimeAcc0.{acc0FirstH1, acc0SecondH0a, acc0SecondH0b, acc0SecondH0, acc0SecondH1}
-use Rattle.step2_solver.specs.TimeAcc0.{acc0SecondT1, acc0ThirdH0a, acc0ThirdH0b, acc0ThirdH1, acc0ThirdH2}
-use Rattle.step2_solver.specs.TimeAcc0.{acc0First, acc0Second, acc0Third}
-use Rattle.step2_solver_quartic.specs.declared.Window.{Window}
-use Rattle.step2_solver_quartic.specs.Window.{outsideOf}
-use Rattle.step2_solver_quartic.specs.TimeAcc1Vel.{acc1VelUdduNewton, acc1VelUdduH1, acc1VelUdudH1}
-use Rattle.step2_solver_quartic.specs.TimeAcc1Vel.{acc1VelUddu, acc1VelUdud}
-use Rattle.step2_solver_quartic.specs.TimeAcc0Vel.{acc0VelUdduNewton, acc0VelUdduH1, acc0VelUdudNewton, acc0VelUdudH1}
-use Rattle.step2_solver_quartic.specs.TimeAcc0Vel.{acc0VelUddu, acc0VelUdud}
+use Rattle.time_acc0_acc1_vel.specs.TimeAcc0Acc1Vel.{acc0Acc1VelUdduApplies, acc0Acc1VelUdduH1, acc0Acc1VelUdduT1}
+use Rattle.time_acc0_acc1_vel.specs.TimeAcc0Acc1Vel.{acc0Acc1VelUdudApplies, acc0Acc1VelUdudT1, acc0Acc1VelUdudT3}
+use Rattle.time_acc0_acc1_vel.specs.TimeAcc0Acc1Vel.{acc0Acc1VelUddu, acc0Acc1VelUdud}
+use Rattle.time_acc0_acc1.specs.TimeAcc0Acc1.{acc0Acc1RestApplies, acc0Acc1RestH1, acc0Acc1RestH2, acc0Acc1RestJf}
+use Rattle.time_acc0_acc1.specs.TimeAcc0Acc1.{acc0Acc1RestT1, acc0Acc1RestTimes, acc0Acc1UdduH1, acc0Acc1UdduJf}
+use Rattle.time_acc0_acc1.specs.TimeAcc0Acc1.{acc0Acc1Rest, acc0Acc1Uddu}
+use Rattle.time_acc0.specs.TimeAcc0.{acc0FirstH1, acc0SecondH0a, acc0SecondH0b, acc0SecondH0, acc0SecondH1}
+use Rattle.time_acc0.specs.TimeAcc0.{acc0SecondT1, acc0ThirdH0a, acc0ThirdH0b, acc0ThirdH1, acc0ThirdH2}
+use Rattle.time_acc0.specs.TimeAcc0.{acc0First, acc0Second, acc0Third}
+use Rattle.step2_solver.specs.declared.Window.{Window}
+use Rattle.step2_solver.specs.Window.{outsideOf}
+use Rattle.time_acc1_vel.specs.TimeAcc1Vel.{acc1VelUdduNewton, acc1VelUdduH1, acc1VelUdudH1}
+use Rattle.time_acc1_vel.specs.TimeAcc1Vel.{acc1VelUddu, acc1VelUdud}
+use Rattle.time_acc0_vel.specs.TimeAcc0Vel.{acc0VelUdduNewton, acc0VelUdduH1, acc0VelUdudNewton, acc0VelUdudH1}
+use Rattle.time_acc0_vel.specs.TimeAcc0Vel.{acc0VelUddu, acc0VelUdud}
 use Rattle.step2_attempt.specs.Attempt.{tryOf}
 use Rattle.step2_arrives.specs.Moves.{Numbers}
 use Rattle.step2_arrives.proofs.Sound.{Known, known, none-known, known-cond, AlwaysSound, sound-try}

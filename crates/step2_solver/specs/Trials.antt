@@ -9,11 +9,14 @@ use Rattle.labels.specs.declared.ControlSigns.the-variants.{UDDU}
 use Rattle.step2_solver.specs.declared.Times.{Times}
 use Rattle.step2_solver.specs.declared.Trial.{Trial}
 
+abbrev pub timesOf : (t0 t1 t2 t3 t4 t5 t6 : Float) → Times
+timesOf t0 t1 t2 t3 t4 t5 t6 = record { t0 = t0; t1 = t1; t2 = t2; t3 = t3; t4 = t4; t5 = t5; t6 = t6 }
+
 abbrev pub trialOf : Times → ControlSigns → ReachedLimits → Float → Trial
 trialOf times signs label jf = record { made = true; times = times; signs = signs; label = label; jf = jf }
 
 abbrev noTimes : Times
-noTimes = record { t0 = #0; t1 = #0; t2 = #0; t3 = #0; t4 = #0; t5 = #0; t6 = #0 }
+noTimes = timesOf #0 #0 #0 #0 #0 #0 #0
 
 -- no attempt is made, and nothing of it is looked at
 abbrev pub noTrial : Trial

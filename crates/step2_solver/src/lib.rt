@@ -1,16 +1,14 @@
-// position_third_step2.rs: the solver's record and, a file for each shape, every expression and every attempt of the
-// three shapes that find no roots. A time with a long numerator has a function of its own, and the times take its
-// value, as they take h1 or jf: but for rounding they add up to tf whatever those are.
-
-pub mod time_acc0;
-pub mod time_acc0_acc1;
-pub mod time_acc0_acc1_vel;
+// position_third_step2.rs: the twelve numbers, the solver's record, and an attempt as data. Each shape is a crate of
+// its own above this one, with every expression and every attempt of it. There a time with a long numerator has a
+// function of its own, and the times take its value, as they take h1 or jf: but for rounding they add up to tf whatever
+// those are.
 
 use labels::ControlSigns;
 use labels::ReachedLimits;
 ghost use mathlib.Core.Path.{_≡_};
 ghost use Rattle.step2_solver.specs.New.{newOf, solverOf, limitsOf};
-ghost use Rattle.step2_solver.specs.Trials.{trialOf, noTrial};
+ghost use Rattle.step2_solver.specs.Trials.{timesOf, trialOf, noTrial};
+ghost use Rattle.step2_solver.specs.Window.{outsideOf};
 
 // The twelve numbers of a move, in the order of `new`.
 pub struct Move {
@@ -99,6 +97,20 @@ pub struct Trial {
     pub jf: f64,
 }
 
+pub fn times_of(t0: f64, t1: f64, t2: f64, t3: f64, t4: f64, t5: f64, t6: f64) -> Times
+    ensures { λ r. ⌜ r ≡ timesOf t0 t1 t2 t3 t4 t5 t6 ⌝ }
+{
+    Times {
+        t0,
+        t1,
+        t2,
+        t3,
+        t4,
+        t5,
+        t6,
+    }
+}
+
 pub fn trial_of(times: Times, signs: ControlSigns, label: ReachedLimits, jf: f64) -> Trial
     ensures { λ r. ⌜ r ≡ trialOf times signs label jf ⌝ }
 {
@@ -131,6 +143,19 @@ pub fn no_trial() -> Trial
         label: ReachedLimits::None,
         jf: 0.0,
     }
+}
+
+// The roots that an attempt takes.
+pub struct Window {
+    pub t_min: f64,
+    pub t_max: f64,
+}
+
+// A NaN is not outside.
+pub fn outside(w: Window, root: f64) -> bool
+    ensures { λ r. ⌜ r ≡ outsideOf w root ⌝ }
+{
+    (root < w.t_min) | (root > w.t_max)
 }
 
 impl PositionThirdOrderStep2 {

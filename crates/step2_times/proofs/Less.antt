@@ -13,9 +13,9 @@ use Rattle.rounding.proofs.Sizes.{on}
 use Rattle.rounding.proofs.Sums.{on-add}
 use Rattle.rounding.proofs.Products.{on-twice}
 use Rattle.step2_solver.specs.New.{newOf}
-use Rattle.step2_solver.specs.TimeAcc0Acc1Vel.{acc0Acc1VelUdduTimes, acc0Acc1VelUdudTimes}
-use Rattle.step2_solver.specs.TimeAcc0Acc1.{acc0Acc1RestTimes, acc0Acc1UdduTimes}
-use Rattle.step2_solver.specs.TimeAcc0.{acc0SecondTimes, acc0ThirdTimes}
+use Rattle.time_acc0_acc1_vel.specs.TimeAcc0Acc1Vel.{acc0Acc1VelUdduTimes, acc0Acc1VelUdudTimes}
+use Rattle.time_acc0_acc1.specs.TimeAcc0Acc1.{acc0Acc1RestTimes, acc0Acc1UdduTimes}
+use Rattle.time_acc0.specs.TimeAcc0.{acc0SecondTimes, acc0ThirdTimes}
 use Rattle.step2_times.specs.Facts.{Accepted, Lasts}
 use Rattle.step2_times.proofs.Within.{sum, within, lasts-of, zero-none, less, more}
 

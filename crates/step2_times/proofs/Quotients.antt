@@ -17,9 +17,9 @@ use Rattle.rounding.proofs.Sums.{on-sum, on-sum-forth, on-add, left-sized}
 use Rattle.rounding.proofs.Quotients.{dividend, quotient}
 use Rattle.rounding.proofs.Parts.{part-sum, part-none}
 use Rattle.step2_solver.specs.New.{newOf}
-use Rattle.step2_solver_quartic.specs.TimeAcc1Vel.{acc1VelUdduTimes, acc1VelUdudTimes}
-use Rattle.step2_solver_quartic.specs.TimeAcc0Vel.{acc0VelUdduTimes, acc0VelUdudTimes}
-use Rattle.step2_solver.specs.TimeAcc0.{acc0FirstTimes}
+use Rattle.time_acc1_vel.specs.TimeAcc1Vel.{acc1VelUdduTimes, acc1VelUdudTimes}
+use Rattle.time_acc0_vel.specs.TimeAcc0Vel.{acc0VelUdduTimes, acc0VelUdudTimes}
+use Rattle.time_acc0.specs.TimeAcc0.{acc0FirstTimes}
 use Rattle.step2_times.specs.Facts.{Numbers, Accepted, Lasts}
 use Rattle.step2_times.proofs.Turned.{Turned, turned, unturned}
 use Rattle.step2_times.proofs.Within.{sum, within, lasts-of, zero-none, more, more', twice-less}

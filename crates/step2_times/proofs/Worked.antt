@@ -8,7 +8,7 @@ use Rattle.float.specs.Ops.{#0, #1, #4, #8}
 use Rattle.rounding.specs.Value.{unit, mag, sign, val}
 use Rattle.rounding.specs.Motion.{elapsed}
 use Rattle.step2_solver.specs.New.{newOf}
-use Rattle.step2_solver.specs.TimeAcc0Acc1Vel.{acc0Acc1VelUdduTimes}
+use Rattle.time_acc0_acc1_vel.specs.TimeAcc0Acc1Vel.{acc0Acc1VelUdduTimes}
 use Rattle.step2_times.specs.Facts.{Accepted}
 
 abbrev seven : Float

@@ -3,7 +3,7 @@ use Prim.Native.Nat.{_-_}
 use native.Mathlib.Omega.{arith}
 use borrow.Author.Needs.{needs}
 use Rattle.profile.specs.Parts.{profileOf}
-use Rattle.step2_solver_quartic.specs.TimeAcc0Vel.{acc0VelUddu}
+use Rattle.time_acc0_vel.specs.TimeAcc0Vel.{acc0VelUddu}
 use Rattle.position_third_step2.proofs.Tries.{Rest, start, hit, miss, spent}
 use Rattle.position_third_step2.proofs.acc0_vel.uddu.Statement.{statement}
 use Rattle.position_third_step2.proofs.acc0_vel.uddu.Tie as tie

@@ -3,7 +3,7 @@ use Prim.Native.Nat.{_-_}
 use native.Mathlib.Omega.{arith}
 use borrow.Author.Needs.{needs}
 use Rattle.profile.specs.Parts.{profileOf}
-use Rattle.step2_solver_quartic.specs.TimeAcc1Vel.{acc1VelUdud}
+use Rattle.time_acc1_vel.specs.TimeAcc1Vel.{acc1VelUdud}
 use Rattle.position_third_step2.proofs.Tries.{Rest, start, hit, miss, spent}
 use Rattle.position_third_step2.proofs.acc1_vel.udud.Statement.{statement}
 use Rattle.position_third_step2.proofs.acc1_vel.udud.Tie as tie

@@ -5,9 +5,6 @@ use Rattle.step2_solver.specs.New.{newOf}
 use Rattle.step2_solver.proofs.PositionThirdOrderStep2.new.Statement.{statement}
 use Rattle.step2_solver.proofs.PositionThirdOrderStep2.new.Tie as tie
 
-returns : tie.Need-returns
-unfolding newOf neg ofBits
-returns c = refl
-
 pub new-spec : {M : Type 1} → statement M
-new-spec = tie.close (tie.spec returns)
+unfolding newOf neg ofBits
+new-spec = tie.close (tie.spec (λ c. refl))

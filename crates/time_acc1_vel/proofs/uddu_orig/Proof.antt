@@ -1,0 +1,10 @@
+-- `uddu_orig` is `acc1VelUdduOrig`: the same operations in the same order. Assumes nothing.
+use mathlib.Core.Path.{refl}
+use lib.Ieee.{neg, ofBits}
+use Rattle.time_acc1_vel.specs.TimeAcc1Vel.{acc1VelUdduOrig}
+use Rattle.time_acc1_vel.proofs.uddu_orig.Statement.{statement}
+use Rattle.time_acc1_vel.proofs.uddu_orig.Tie as tie
+
+pub uddu-orig-spec : {M : Type 1} → statement M
+unfolding acc1VelUdduOrig neg ofBits
+uddu-orig-spec = tie.close (tie.spec (λ c. refl))
