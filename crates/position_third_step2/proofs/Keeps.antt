@@ -13,14 +13,14 @@ use Rattle.profile.specs.declared.Profile.{Profile}
 use Rattle.profile.specs.declared.Checked.{Checked}
 use Rattle.labels.specs.declared.tests.Tests.{Tests}
 use Rattle.phases.specs.declared.limit.Band.{Band}
-use Rattle.profile.specs.declared.in_place.Goal.{Goal}
+use Rattle.row.specs.Row.{Nodes, Goal, Numbers}
 use Rattle.labels.specs.declared.Labels.{Labels}
 use Rattle.phases.specs.Run.{Step, run, yes!, no! }
 use Rattle.labels.specs.Tests.{testsOf}
 use Rattle.labels.specs.Jerks.{jerksOf}
 use Rattle.phases.specs.Times.{sumStep, sumsOf, refusedOf}
 use Rattle.phases.specs.Limit.{bandOf}
-use Rattle.phases.specs.Phase.{Nodes, nodeOf, phaseOf}
+use Rattle.phases.specs.Phase.{nodeOf, phaseOf}
 use Rattle.profile.specs.Parts.{profileOf, nodesOf}
 use Rattle.profile.specs.Check.{checkOf}
 use Rattle.roots.specs.declared.RootAnswer.{RootAnswer}
@@ -106,8 +106,8 @@ Keeps f = (q : Profile) → Lengths q → Leaves (f q)
 nodes : {q : Profile} → Lengths q → Eight (nodesOf q)
 nodes h = record { of-a = h .eight-a; of-v = h .eight-v; of-p = h .eight-p }
 
-parts : {t s j : List Float} {n : Nodes} {g : Goal} {l : Labels}
-    → Seven t → Seven s → Seven j → Eight n → Lengths (profileOf t s j n g l)
+parts : {n : Numbers} {l : Labels} → Seven (n .t) → Seven (n .«t_sum») → Seven (n .j) → Eight (n .nodes)
+    → Lengths (profileOf n l)
 parts ht hs hj hn =
     record { seven-t = ht; seven-t-sum = hs; seven-j = hj; eight-a = hn .of-a; eight-v = hn .of-v; eight-p = hn .of-p }
 

@@ -48,9 +48,20 @@ pub first-no : (l : Limits) (xs ys : List Trial) (q : Profile) {c d : Checked}
     → c ≡ triedOf l xs q → c .ok ≡ false → d ≡ triedOf l ys (c .profile) → d ≡ triedOf l (xs ++ ys) q
 first-no l xs ys q e y h = rw (← after l xs ys q, ← e, y) h
 
--- nothing comes after the last one
-pub last : {c : Checked} → c ≡ orElse c nothing
-last {c} = by (c .ok) (c .profile)
+-- the same for one trial, k' as it was worked out; and for the last one
+module _ (l : Limits) (ks : List Trial) (q : Profile) {k k' : Trial} {c : Checked} (is : k' ≡ k)
+    (tries : c ≡ tryOf l k' q) where
+  pub yes! : c .ok ≡ true → c ≡ triedOf l (k ∷ ks) q
+  unfolding triedOf
+  yes! y = rw (← is, ← tries, y)
+
+  pub no! : {d : Checked} → c .ok ≡ false → d ≡ triedOf l ks (c .profile) → d ≡ triedOf l (k ∷ ks) q
+  unfolding triedOf
+  no! y h = rw (← is, ← tries, y) h
+
+pub last : (l : Limits) (q : Profile) {k k' : Trial} {c : Checked} → k' ≡ k → c ≡ tryOf l k' q → c ≡ triedOf l (k ∷ []) q
+unfolding triedOf
+last l q {k} {k'} {c} is tries = rw (← is, ← tries) (by (c .ok) (c .profile))
   where
     by : (b : Bool) (x : Profile) → record { ok = b; profile = x } ≡ orElse (record { ok = b; profile = x }) nothing
     by true x = refl

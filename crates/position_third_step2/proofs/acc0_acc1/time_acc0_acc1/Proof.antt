@@ -1,23 +1,17 @@
--- `time_acc0_acc1` in place makes its one trial. Assumes nothing.
-use mathlib.Core.Path.{_∙_}
-use Rattle.step2_attempt.specs.Attempt.{triedOf}
+-- `time_acc0_acc1` in place makes one trial: its rest formula where both end accelerations are 0. Assumes nothing.
 use Rattle.position_third_step2.proofs.Tries.{last}
 use Rattle.position_third_step2.proofs.acc0_acc1.time_acc0_acc1.Statement.{statement}
 use Rattle.position_third_step2.proofs.acc0_acc1.time_acc0_acc1.Tie as tie
 
 returns : tie.Need-returns
-unfolding triedOf
 returns c =
-    let rest = c .before .before .before .before .before .before .before in
-    let tested = rest .before in
-    rw (← tested .before .rest-applies .ensures, tested .if1 .taken, ← rest .rest .ensures) (c .tried .ensures ∙ last)
+    let r = c .before .before in let i = r .before in
+    rw (← i .before .rest-applies .ensures, i .if1 .taken) (last _ _ (r .rest .ensures) (c .tried .ensures))
 
 returns-2 : tie.Need-returns-2
-unfolding triedOf
 returns-2 c =
-    let uddu = c .before .before .before .before .before .before .before in
-    let tested = uddu .before in
-    rw (← tested .before .rest-applies .ensures, tested .if1 .left, ← uddu .uddu .ensures) (c .tried2 .ensures ∙ last)
+    let u = c .before .before in let i = u .before in
+    rw (← i .before .rest-applies .ensures, i .if1 .left) (last _ _ (u .uddu .ensures) (c .tried2 .ensures))
 
 pub time-acc0-acc1-spec : {M : Type 1} → statement M
 time-acc0-acc1-spec =

@@ -10,16 +10,14 @@ returns c = rw (← c .before .too-short .ensures, c .if1 .taken)
 
 returns-2 : tie.Need-returns-2
 returns-2 c =
-    let tested = c .before .before .before .before .before .before .before .before .before in
-    rw (← tested .before .too-short .ensures, tested .if1 .left)
-    (first-yes _ _ _ _ (c .before .uddu .ensures) (c .if2 .taken))
+    let u = c .before in let t = u .before .before .before in
+    rw (← t .before .too-short .ensures, t .if1 .left) (first-yes _ _ _ _ (u .uddu .ensures) (c .if2 .taken))
 
 returns-3 : tie.Need-returns-3
 returns-3 c =
-    let first = c .before .before .before .before .before .before .before .before .before in
-    let tested = first .before .before .before .before .before .before .before .before .before in
-    rw (← tested .before .too-short .ensures, tested .if1 .left)
-    (first-no _ _ _ _ (first .before .uddu .ensures) (first .if2 .left) (c .udud .ensures))
+    let i = c .before .before .before .before in let u = i .before in let t = u .before .before .before in
+    rw (← t .before .too-short .ensures, t .if1 .left)
+    (first-no _ _ _ _ (u .uddu .ensures) (i .if2 .left) (c .udud .ensures))
 
 pub time-acc0-vel-spec : {M : Type 1} → statement M
 time-acc0-vel-spec = tie.close (tie.spec (λ c κs. tt) returns (λ c κs. tt) returns-2 (λ c κs. tt) returns-3)

@@ -8,8 +8,8 @@ returns c = first-yes _ _ _ _ (c .before .uddu .ensures) (c .if1 .taken)
 
 returns-2 : tie.Need-returns-2
 returns-2 c =
-    let tested = c .before .before .before .before .before .before .before .before .before in
-    first-no _ _ _ _ (tested .before .uddu .ensures) (tested .if1 .left) (c .udud .ensures)
+    let i = c .before .before .before .before in
+    first-no _ _ _ _ (i .before .uddu .ensures) (i .if1 .left) (c .udud .ensures)
 
 pub time-acc1-vel-spec : {M : Type 1} → statement M
 time-acc1-vel-spec = tie.close (tie.spec (λ c κs. tt) returns (λ c κs. tt) returns-2)
