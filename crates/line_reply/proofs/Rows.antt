@@ -9,6 +9,8 @@ use lib.ListN.{length, getD, take, drop, set, length-append, drop-of-length-le}
 use lib.Seq.{drop-cons, sets, sets-eq, take-append-seam}
 use lib.Ieee.{Float}
 use Rattle.number_bytes.specs.Bytes.{numberBytes}
+use Rattle.row.specs.Row.{part, numbersIn}
+use Rattle.row.proofs.Rows.{part-long}
 use Rattle.profile.specs.declared.in_place.Verdict.{Verdict}
 use Rattle.roots.specs.declared.Need.{Need}
 use Rattle.roots.specs.declared.Three.{Three}
@@ -52,38 +54,39 @@ pub done : (reply : List ℕ) (at : ℕ) (row : List Float) (i : ℕ) → length
 done reply at row i h = rw (drop-of-length-le row h)
 
 -- ---- the six rows
-module _ (t s j a v p : List Float) (ht : length t ≡ 7) (hs : length s ≡ 7) (hj : length j ≡ 7) (ha : length a ≡ 8)
-    (hv : length v ≡ 8) (hp : length p ≡ 8) where
-  then : (xs : List ℕ) (row : List Float) (l : List ℕ) (n : ℕ) → 4 + length xs ≡ n
-      → sets (sets l 4 xs) n (numbersBytes row) ≡ sets l 4 (xs ++ numbersBytes row)
-  then xs row l n e = rw (← e) (sets-append xs (numbersBytes row) l 4)
+then : (xs : List ℕ) (row : List Float) (l : List ℕ) (n : ℕ) → 4 + length xs ≡ n
+    → sets (sets l 4 xs) n (numbersBytes row) ≡ sets l 4 (xs ++ numbersBytes row)
+then xs row l n e = rw (← e) (sets-append xs (numbersBytes row) l 4)
 
-  longer : (xs : List ℕ) (row : List Float) (m n k : ℕ) → length row ≡ k → 4 + length xs ≡ m → m + 8 * k ≡ n
-      → 4 + length (xs ++ numbersBytes row) ≡ n
-  longer xs row m n k h e f = rw (length-append xs (numbersBytes row)) (omega (arith, length-numbers row))
+longer : (xs : List ℕ) (row : List Float) (m n k : ℕ) → length row ≡ k → 4 + length xs ≡ m → m + 8 * k ≡ n
+    → 4 + length (xs ++ numbersBytes row) ≡ n
+longer xs row m n k h e f = rw (length-append xs (numbersBytes row)) (omega (arith, length-numbers row))
 
-  pub six-rows : (l : List ℕ) → length l ≡ 364
-      → sets (sets (sets (sets (sets (sets l 4 (numbersBytes t)) 60 (numbersBytes s)) 116 (numbersBytes j)) 172
-      (numbersBytes a)) 236 (numbersBytes v)) 300 (numbersBytes p)
-      ≡ take 4 l ++ rowsOf t s j a v p
+module _ (x : List Float) (row : length x ≡ 48) (l : List ℕ) (hl : length l ≡ 364) where
+  pub six-rows :
+      sets (sets (sets (sets (sets (sets l 4 (numbersBytes (part 0 7 x))) 60 (numbersBytes (part 7 7 x)))
+      116 (numbersBytes (part 14 7 x))) 172 (numbersBytes (part 21 8 x))) 236 (numbersBytes (part 29 8 x)))
+      300 (numbersBytes (part 37 8 x))
+      ≡ take 4 l ++ rowsOf (numbersIn x)
   unfolding rowsOf
-  six-rows l hl =
-      let x1 = numbersBytes t in
-      let x2 = x1 ++ numbersBytes s in
-      let x3 = x2 ++ numbersBytes j in
-      let x4 = x3 ++ numbersBytes a in
-      let x5 = x4 ++ numbersBytes v in
-      let x6 = x5 ++ numbersBytes p in
-      let e1 : 4 + length x1 ≡ 60 = omega (arith, length-numbers t) in
-      let e2 : 4 + length x2 ≡ 116 = longer x1 s 60 116 7 hs e1 refl in
-      let e3 : 4 + length x3 ≡ 172 = longer x2 j 116 172 7 hj e2 refl in
-      let e4 : 4 + length x4 ≡ 236 = longer x3 a 172 236 8 ha e3 refl in
-      let e5 : 4 + length x5 ≡ 300 = longer x4 v 236 300 8 hv e4 refl in
-      let e6 : 4 + length x6 ≡ 364 = longer x5 p 300 364 8 hp e5 refl in
+  six-rows =
+      let x1 = numbersBytes (part 0 7 x) in
+      let x2 = x1 ++ numbersBytes (part 7 7 x) in
+      let x3 = x2 ++ numbersBytes (part 14 7 x) in
+      let x4 = x3 ++ numbersBytes (part 21 8 x) in
+      let x5 = x4 ++ numbersBytes (part 29 8 x) in
+      let x6 = x5 ++ numbersBytes (part 37 8 x) in
+      let e1 : 4 + length x1 ≡ 60 = omega (arith, length-numbers (part 0 7 x), part-long 0 7 x (omega arith)) in
+      let e2 : 4 + length x2 ≡ 116 = longer x1 (part 7 7 x) 60 116 7 (part-long 7 7 x (omega arith)) e1 refl in
+      let e3 : 4 + length x3 ≡ 172 = longer x2 (part 14 7 x) 116 172 7 (part-long 14 7 x (omega arith)) e2 refl in
+      let e4 : 4 + length x4 ≡ 236 = longer x3 (part 21 8 x) 172 236 8 (part-long 21 8 x (omega arith)) e3 refl in
+      let e5 : 4 + length x5 ≡ 300 = longer x4 (part 29 8 x) 236 300 8 (part-long 29 8 x (omega arith)) e4 refl in
+      let e6 : 4 + length x6 ≡ 364 = longer x5 (part 37 8 x) 300 364 8 (part-long 37 8 x (omega arith)) e5 refl in
       let h : 4 + length x6 ≤ length l = omega arith in
       let k : length l ≤ 4 + length x6 = omega arith in
-      rw (then x1 s l 60 e1, then x2 j l 116 e2, then x3 a l 172 e3, then x4 v l 236 e4, then x5 p l 300 e5)
-      (sets-eq x6 l 4 h ∙ rw (drop-of-length-le l k) (simp (append-assoc, append-nil)))
+      rw (then x1 (part 7 7 x) l 60 e1, then x2 (part 14 7 x) l 116 e2, then x3 (part 21 8 x) l 172 e3)
+      (rw (then x4 (part 29 8 x) l 236 e4, then x5 (part 37 8 x) l 300 e5)
+      (sets-eq x6 l 4 h ∙ rw (drop-of-length-le l k) (simp (append-assoc, append-nil))))
 
 -- the first four places after the head is stored
 pub head-first : (r : Verdict) (l : List ℕ) → length l ≡ 364 → take 4 (sets l 0 (headOf r)) ≡ headOf r

@@ -9,8 +9,8 @@ use lib.Ieee.{Float, nan}
 use Rattle.hex.specs.Hex.{Filled, hexOf, fill}
 use Rattle.number_bytes.specs.Bytes.{numberBytes}
 use Rattle.labels.specs.Labels.{labelNumber, directionNumber, signsNumber}
-use Rattle.profile.specs.Parts.{labelsOf}
-use Rattle.profile.specs.declared.Profile.{Profile}
+use Rattle.row.specs.Row.{Numbers}
+use Rattle.profile.specs.Parts.{numbersOf, labelsOf}
 use Rattle.profile.specs.declared.in_place.Verdict.{Verdict}
 use Rattle.profile.specs.declared.Checked.{Checked}
 use Rattle.roots.specs.Quartic.{needOf, needNumber, resolventOf}
@@ -27,19 +27,19 @@ headOf r =
     cond (r .ok) 1 0 ∷ labelNumber (l .limits) ∷ directionNumber (l .direction) ∷ signsNumber (l .«control_signs») ∷ []
 
 -- t, t_sum, j (7 each), a, v, p (8 each)
-unfoldable pub rowsOf : List Float → List Float → List Float → List Float → List Float → List Float → List ℕ
-rowsOf t t-sum j a v p =
-    numbersBytes t
-    ++ numbersBytes t-sum
-    ++ numbersBytes j
-    ++ numbersBytes a
-    ++ numbersBytes v
-    ++ numbersBytes p
+unfoldable pub rowsOf : Numbers → List ℕ
+rowsOf n =
+    numbersBytes (n .t)
+    ++ numbersBytes (n .«t_sum»)
+    ++ numbersBytes (n .j)
+    ++ numbersBytes (n .nodes .a)
+    ++ numbersBytes (n .nodes .v)
+    ++ numbersBytes (n .nodes .p)
 
 unfoldable pub replyBytesOf : Checked → List ℕ
 replyBytesOf c =
     let q = c .profile in
-    headOf (record { ok = c .ok; labels = labelsOf q }) ++ rowsOf (q .t) (q .«t_sum») (q .j) (q .a) (q .v) (q .p)
+    headOf (record { ok = c .ok; labels = labelsOf q }) ++ rowsOf (numbersOf q)
 
 -- for x⁴ + a x³ + b x² + c x + d: the need, a b c d, and the resolvent's three arguments
 unfoldable pub quarticBytesOf : Float → Float → Float → Float → List ℕ

@@ -7,10 +7,12 @@ use hex::encode;
 use profile::in_place::Verdict;
 use quartics::put_quartics;
 use record::put_record;
+use row::NUMBERS;
 ghost use mathlib.Core.Path.{_≡_};
 ghost use mathlib.Core.List.{_++_};
+ghost use Rattle.profile.specs.Parts.{checkedIn};
 ghost use Rattle.line_kinds.specs.Kinds.{recordPlaces, quarticsPlaces};
-ghost use Rattle.line_reply.specs.Reply.{headOf, rowsOf, quarticBytes, writtenOf};
+ghost use Rattle.line_reply.specs.Reply.{replyBytesOf, quarticBytes, writtenOf};
 
 // The characters of a record's bytes.
 fn send(bytes: &[u8; 364], reply: &mut [u8]) -> bool
@@ -21,24 +23,12 @@ fn send(bytes: &[u8; 364], reply: &mut [u8]) -> bool
 }
 
 // The reply of `check` and of a shape; no, and nothing touched, where the places are fewer.
-pub fn write_record(
-    reply: &mut [u8],
-    answer: Verdict,
-    t: &[f64; 7],
-    t_sum: &[f64; 7],
-    j: &[f64; 7],
-    a: &[f64; 8],
-    v: &[f64; 8],
-    p: &[f64; 8],
-) -> bool
+pub fn write_record(reply: &mut [u8], answer: Verdict, x: &[f64; NUMBERS]) -> bool
     ensures { λ r. ⌜ record { ok = r; left = now (reply .exit) }
-        ≡ writtenOf recordPlaces
-        (headOf answer ++ rowsOf (now (t .entry)) (now («t_sum» .entry)) (now (j .entry)) (now (a .entry))
-        (now (v .entry)) (now (p .entry)))
-        (now (reply .entry)) ⌝ }
+        ≡ writtenOf recordPlaces (replyBytesOf (checkedIn (now (x .entry)) answer)) (now (reply .entry)) ⌝ }
 {
     let mut bytes = [0u8; 364];
-    put_record(&mut bytes, answer, t, t_sum, j, a, v, p);
+    put_record(&mut bytes, answer, x);
     send(&bytes, reply)
 }
 

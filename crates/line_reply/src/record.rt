@@ -4,12 +4,16 @@ use labels::direction_number;
 use labels::label_number;
 use labels::signs_number;
 use profile::in_place::Verdict;
+use row::NUMBERS;
+use row::whole;
 ghost use mathlib.Core.Path.{_≡_};
 ghost use mathlib.Core.Bool.{cond};
 ghost use mathlib.Core.List.{_++_};
 ghost use lib.ListN.{length, take};
 ghost use lib.Seq.{sets};
-ghost use Rattle.line_reply.specs.Reply.{headOf, rowsOf};
+ghost use Rattle.row.specs.Row.{numbersIn};
+ghost use Rattle.profile.specs.Parts.{checkedIn};
+ghost use Rattle.line_reply.specs.Reply.{headOf, rowsOf, replyBytesOf};
 
 // Verdict, label, direction and signs.
 fn put_head(bytes: &mut [u8; 364], answer: Verdict)
@@ -31,44 +35,25 @@ fn verdict(ok: bool) -> u8
     if ok { 1 } else { 0 }
 }
 
-fn put_rows(
-    bytes: &mut [u8; 364],
-    t: &[f64; 7],
-    t_sum: &[f64; 7],
-    j: &[f64; 7],
-    a: &[f64; 8],
-    v: &[f64; 8],
-    p: &[f64; 8],
-)
+// The six rows one by one: a loop over all 45 numbers takes longer.
+fn put_rows(bytes: &mut [u8; 364], x: &[f64; NUMBERS])
     requires { ⌜ length (now bytes) ≡ 364 ⌝ }
-    ensures { λ _. ⌜ now (bytes .exit)
-        ≡ take 4 (now (bytes .entry))
-        ++ rowsOf (now (t .entry)) (now («t_sum» .entry)) (now (j .entry)) (now (a .entry)) (now (v .entry))
-        (now (p .entry)) ⌝ }
+    ensures { λ _. ⌜ now (bytes .exit) ≡ take 4 (now (bytes .entry)) ++ rowsOf (numbersIn (now (x .entry))) ⌝ }
 {
-    put_row(bytes, 4, t);
-    put_row(bytes, 60, t_sum);
-    put_row(bytes, 116, j);
-    put_row(bytes, 172, a);
-    put_row(bytes, 236, v);
-    put_row(bytes, 300, p);
+    whole(*x);
+    let all = &x[..];
+    put_row(bytes, 4, &all[0..7]);
+    put_row(bytes, 60, &all[7..14]);
+    put_row(bytes, 116, &all[14..21]);
+    put_row(bytes, 172, &all[21..29]);
+    put_row(bytes, 236, &all[29..37]);
+    put_row(bytes, 300, &all[37..45]);
 }
 
-pub fn put_record(
-    bytes: &mut [u8; 364],
-    answer: Verdict,
-    t: &[f64; 7],
-    t_sum: &[f64; 7],
-    j: &[f64; 7],
-    a: &[f64; 8],
-    v: &[f64; 8],
-    p: &[f64; 8],
-)
+pub fn put_record(bytes: &mut [u8; 364], answer: Verdict, x: &[f64; NUMBERS])
     requires { ⌜ length (now bytes) ≡ 364 ⌝ }
-    ensures { λ _. ⌜ now (bytes .exit)
-        ≡ headOf answer ++ rowsOf (now (t .entry)) (now («t_sum» .entry)) (now (j .entry)) (now (a .entry))
-        (now (v .entry)) (now (p .entry)) ⌝ }
+    ensures { λ _. ⌜ now (bytes .exit) ≡ replyBytesOf (checkedIn (now (x .entry)) answer) ⌝ }
 {
     put_head(bytes, answer);
-    put_rows(bytes, t, t_sum, j, a, v, p);
+    put_rows(bytes, x);
 }

@@ -2,7 +2,8 @@
 use mathlib.Core.Path.{_∙_}
 use lib.Seq.{length-sets}
 use borrow.Author.Needs.{needs}
-use Rattle.line_reply.specs.Reply.{headOf}
+use Rattle.profile.specs.Parts.{profileIn}
+use Rattle.line_reply.specs.Reply.{headOf, replyBytesOf}
 use Rattle.line_reply.proofs.Rows.{head-first}
 use Rattle.line_reply.proofs.record.put_record.Statement.{statement}
 use Rattle.line_reply.proofs.record.put_record.Tie as tie
@@ -14,6 +15,7 @@ put-rows-requires c κs =
     rw (h .put-head .ensures) (length-sets (q .args .bytes .now) 0 (headOf (q .args .answer)) ∙ q .pre)
 
 returns : tie.Need-returns
+unfolding replyBytesOf profileIn
 returns c =
     let h = c .before .before in
     let q = h .before .before in
