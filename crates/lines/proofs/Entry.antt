@@ -74,7 +74,7 @@ module _ (line lent : List ℕ) where
   unfolding answerOf
   first h = numbered 1 (refused _ lent [] 1 _ tt h (λ e. omega arith)) (λ e. omega arith)
 
-  module _ (h1 : lengthFits (length line) ≡ true) (ok : Bool) (bytes : List ℕ)
+  module _ (h1 : lengthFits (length line) ≡ true) {ok : Bool} {bytes : List ℕ}
       (e : record { ok = ok; left = bytes } ≡ decodeOf line (replicate frameMost 0)) where
     decoded : _≡_ {A = Filled} (record { ok = ok; left = bytes })
         (record { ok = allDigits line; left = fill (bytesOf line) (replicate frameMost 0) })
@@ -101,7 +101,7 @@ module _ (line lent : List ℕ) where
     pub frame-is : byteAt bytes ≡ at
     frame-is = rw (ap (λ x. x .left) decoded) (frame-at (bytesOf line) frameMost)
 
-    module _ (h2 : ok ≡ true) (r : Row) (er : r ≡ rowOf (byteAt bytes 0)) where
+    module _ (h2 : ok ≡ true) {r : Row} (er : r ≡ rowOf (byteAt bytes 0)) where
       row-is : r ≡ row
       row-is = er ∙ ap (λ (f : Frame). rowOf (f 0)) frame-is
 
@@ -130,7 +130,7 @@ module _ (line lent : List ℕ) where
             (rw (← row-is, ← half line, ne-eqb (length line / 2) (r .bytes) d)) (λ e. omega arith))
             (λ e. omega arith)
 
-        module _ (h4 : length line / 2 ≡ r .bytes) (n : ℕ) (reply : List ℕ)
+        module _ (h4 : length line / 2 ≡ r .bytes) {n : ℕ} {reply : List ℕ}
             (ea : record { number = n; places = reply } ≡ frameAnswerOf (r .asks) (byteAt bytes) lent) where
           passed : AllYes (lineQuestions line row)
           passed = (h1, (digits, (kind-is, (rw (← row-is, ← half line, eq-eqb (length line / 2) (r .bytes) h4), tt))))

@@ -9,8 +9,9 @@ use line_kinds::FRAME;
 use line_kinds::RECORD;
 use line_questions::choices_fit;
 use line_reply::write_record;
-use profile::in_place::Goal;
 use profile::in_place::check;
+use row::set_times;
+use row::start;
 ghost use mathlib.Core.Path.{_≡_};
 ghost use Prim.Native.Nat.{_≤_};
 ghost use lib.ListN.{length};
@@ -28,25 +29,11 @@ fn check_reply(x: CheckNumbers, frame: &[u8; FRAME], reply: &mut [u8])
     ensures { λ _. ⌜ now (reply .exit)
         ≡ fill (hexOf (replyBytesOf (checkedOf x (byteAt (now (frame .entry)))))) (now (reply .entry)) ⌝ }
 {
+    let mut row = start(x.p0, x.v0, x.a0, x.pf, x.vf, x.af);
     let t = x.t;
-    let mut t_sum = [0.0; 7];
-    let mut j = [0.0; 7];
-    let mut a = [x.a0, 0.0, 0.0, 0.0, 0.0, 0.0, 0.0, 0.0];
-    let mut v = [x.v0, 0.0, 0.0, 0.0, 0.0, 0.0, 0.0, 0.0];
-    let mut p = [x.p0, 0.0, 0.0, 0.0, 0.0, 0.0, 0.0, 0.0];
-    let goal = Goal {
-        pf: x.pf,
-        vf: x.vf,
-        af: x.af,
-    };
+    set_times(&mut row, t);
     let answer = check(
-        &t,
-        &mut t_sum,
-        &mut j,
-        &mut a,
-        &mut v,
-        &mut p,
-        goal,
+        &mut row,
         start_labels(),
         signs(frame[1]),
         label(frame[2]),
@@ -57,7 +44,7 @@ fn check_reply(x: CheckNumbers, frame: &[u8; FRAME], reply: &mut [u8])
         x.a_max,
         x.a_min,
     );
-    write_record(reply, answer, &t, &t_sum, &j, &a, &v, &p);
+    write_record(reply, answer, &row);
 }
 
 pub fn check_line(frame: &[u8; FRAME], reply: &mut [u8]) -> u32

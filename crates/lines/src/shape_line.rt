@@ -12,8 +12,8 @@ use line_questions::counts_suit;
 use line_reply::write_quartics;
 use line_reply::write_record;
 use position_third_step2::in_place::ask;
-use profile::in_place::Goal;
 use roots::RootAnswer;
+use row::start;
 use step2_quartics::Quartics;
 use step2_quartics::quartics_of;
 use step2_solver::Limits;
@@ -49,34 +49,9 @@ fn shape_reply(
     ensures { λ _. ⌜ now (reply .exit)
         ≡ fill (hexOf (replyBytesOf (shapeOf shape s l q first second (startOf x)))) (now (reply .entry)) ⌝ }
 {
-    let mut t = [0.0; 7];
-    let mut t_sum = [0.0; 7];
-    let mut j = [0.0; 7];
-    let mut a = [x.a0, 0.0, 0.0, 0.0, 0.0, 0.0, 0.0, 0.0];
-    let mut v = [x.v0, 0.0, 0.0, 0.0, 0.0, 0.0, 0.0, 0.0];
-    let mut p = [x.p0, 0.0, 0.0, 0.0, 0.0, 0.0, 0.0, 0.0];
-    let goal = Goal {
-        pf: x.pf,
-        vf: x.vf,
-        af: x.af,
-    };
-    let answer = ask(
-        shape,
-        s,
-        l,
-        q,
-        first,
-        second,
-        &mut t,
-        &mut t_sum,
-        &mut j,
-        &mut a,
-        &mut v,
-        &mut p,
-        goal,
-        start_labels(),
-    );
-    write_record(reply, answer, &t, &t_sum, &j, &a, &v, &p);
+    let mut row = start(x.p0, x.v0, x.a0, x.pf, x.vf, x.af);
+    let answer = ask(shape, s, l, q, first, second, &mut row, start_labels());
+    write_record(reply, answer, &row);
 }
 
 // Question 5, which has nothing to ask of a line that asks for the quartics alone.
