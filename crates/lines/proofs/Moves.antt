@@ -8,14 +8,22 @@ use native.Mathlib.Omega.{arith}
 use lib.ListN.{length}
 use borrow.Author.Tests.{le-leb, lt-leb}
 use Rattle.hex.specs.Hex.{hexOf, fill}
+use Rattle.roots.specs.declared.RootAnswer.{RootAnswer}
+use Rattle.step2_solver.specs.declared.Move.{Move}
+use Rattle.step2_solver.specs.declared.Limits.{Limits}
+use Rattle.step2_solver.specs.declared.PositionThirdOrderStep2.{PositionThirdOrderStep2}
 use Rattle.step2_solver.specs.declared.Shape.{Shape}
+use Rattle.step2_solver.specs.New.{solverOf, limitsOf}
+use Rattle.step2_quartics.specs.declared.Quartics.{Quartics}
+use Rattle.step2_quartics.specs.Quartics.{quarticsOf}
+use Rattle.position_third_step2.specs.Shape.{shapeOf}
 use Rattle.line_kinds.specs.declared.Asks.the-variants.{OfShape, OfQuartics}
 use Rattle.line_kinds.specs.Kinds.{recordPlaces, quarticsPlaces}
 use Rattle.line_frame.specs.Frame.{Frame}
-use Rattle.line_frame.specs.Numbers.{moveFinite}
+use Rattle.line_frame.specs.Numbers.{moveFinite, moveOf, firstAnswerOf, secondAnswerOf}
 use Rattle.line_questions.specs.Questions.{ask, countsFit, countsSuit, quarticsAt, questionsOf}
 use Rattle.line_reply.specs.Reply.{replyBytesOf}
-use Rattle.lines.specs.ShapeLine.{shapeLineOf}
+use Rattle.lines.specs.ShapeLine.{startOf, shapeLineOf}
 use Rattle.lines.specs.QuarticLine.{quarticLineOf}
 use Rattle.lines.specs.Answer.{Answer, replyOf, ofShape, frameAnswerOf}
 use Rattle.lines.proofs.Replies.{refused, replied}
@@ -63,13 +71,13 @@ module _ (shape : Shape) (at : Frame) (lent : List ℕ) where
           by true e k = absurd (true≢false e)
           by false e k = k
 
-      shape-is : (n : ℕ) (places : List ℕ) → Is false n places → Is quartics n places
-      shape-is n places e = rw q e
+      asks-it : (n : ℕ) (places : List ℕ) → Is false n places → Is quartics n places
+      asks-it n places e = rw q e
 
       pub seventh : countsSuit shape (quarticsAt shape at) at ≡ false → Is quartics 7 lent
       unfolding frameAnswerOf questionsOf
       seventh k =
-          shape-is 7 lent
+          asks-it 7 lent
           (refused _ lent (ask 5 (countsFit shape at) ∷ ask 6 (moveFinite at) ∷ []) 7 _ (counts, (finite, tt)) k
           (λ e. omega arith))
 
@@ -77,7 +85,7 @@ module _ (shape : Shape) (at : Frame) (lent : List ℕ) where
         pub eighth : length lent < recordPlaces → Is quartics 8 lent
         unfolding frameAnswerOf questionsOf
         eighth l =
-            shape-is 8 lent
+            asks-it 8 lent
             (refused _ lent
             (ask 5 (countsFit shape at)
             ∷ ask 6 (moveFinite at)
@@ -93,8 +101,19 @@ module _ (shape : Shape) (at : Frame) (lent : List ℕ) where
             → reply ≡ fill (hexOf (replyBytesOf (shapeLineOf shape at))) lent → Is quartics 0 reply
         unfolding frameAnswerOf questionsOf replyOf
         all l reply e =
-            shape-is 0 reply
+            asks-it 0 reply
             (replied (replyOf (OfShape shape) at) lent _
             (counts, (finite, (suits, (le-leb recordPlaces (length lent) l, tt))))
             reply
             e)
+
+-- ---- what is worked out of the frame's numbers
+module _ (shape : Shape) (at : Frame) {x : Move} {s : PositionThirdOrderStep2} {l : Limits} {q : Quartics}
+    (ex : x ≡ moveOf at) (es : s ≡ solverOf x) (el : l ≡ limitsOf x) (eq : q ≡ quarticsOf shape s l) where
+  pub quartics-are : q ≡ quarticsAt shape at
+  quartics-are = rw (eq, el, es, ex)
+
+  pub shape-is : {first second : RootAnswer} → first ≡ firstAnswerOf at → second ≡ secondAnswerOf at
+      → shapeOf shape s l q first second (startOf x) ≡ shapeLineOf shape at
+  unfolding shapeLineOf
+  shape-is ef ed = rw (ef, ed, eq, el, es, ex)

@@ -1,13 +1,15 @@
 -- `check_line` is the answer to a frame of kind 00: its questions in order, then the reply. Assumes nothing.
-use mathlib.Core.Path.{refl, sym, ap, _∙_}
-use mathlib.Core.List.{[], _∷_}
+use mathlib.Core.Path.{_≡_, sym, _∙_}
+use mathlib.Core.Bool.{true}
+use mathlib.Core.List.{List, [], _∷_}
+use Prim.Native.Nat.{ℕ}
 use native.Mathlib.Omega.{arith}
 use lib.ListN.{length}
 use borrow.Author.Needs.{needs}
 use borrow.Author.Tests.{not-true, not-false, le-leb, lt-leb}
 use Rattle.line_kinds.specs.declared.Asks.the-variants.{OfCheck}
 use Rattle.line_kinds.specs.Kinds.{recordPlaces}
-use Rattle.line_frame.specs.Frame.{byteAt}
+use Rattle.line_frame.specs.Frame.{Frame, byteAt}
 use Rattle.line_frame.specs.Numbers.{checkFinite}
 use Rattle.line_questions.specs.Questions.{ask, choicesFit, questionsOf}
 use Rattle.lines.specs.Answer.{replyOf, frameAnswerOf}
@@ -15,64 +17,47 @@ use Rattle.lines.proofs.Replies.{refused, replied}
 use Rattle.lines.proofs.check_line.check_line.Statement.{statement}
 use Rattle.lines.proofs.check_line.check_line.Tie as tie
 
+-- ---- what is known past question 5, and past question 6
+abbrev at : tie.Else1 → Frame
+at i = byteAt (i .before .before .before .args .frame .now)
+
+abbrev lent : tie.Else1 → List ℕ
+lent i = i .before .before .before .args .reply .now
+
+fits : (i : tie.Else1) → choicesFit (at i) ≡ true
+fits i = let f = i .before in sym (f .choices-fit .ensures) ∙ not-false (f .choices-fit .result) (i .if1 .left)
+
+finite : (i : tie.Else2) → checkFinite (at (i .before .before)) ≡ true
+finite i = let n = i .before in sym (n .check-finite .ensures) ∙ not-false (n .check-finite .result) (i .if2 .left)
+
 returns : tie.Need-returns
 unfolding frameAnswerOf questionsOf
 returns c =
     let f = c .before in
-    let q = f .before .before .args in
-    refused _ (q .reply .now) [] 5 _ tt
-    (sym (f .choices-fit .ensures) ∙ not-true (f .choices-fit .result) (c .if1 .taken))
-    (λ e. omega arith)
+    refused _ (f .before .before .args .reply .now) [] 5 _ tt
+    (sym (f .choices-fit .ensures) ∙ not-true (f .choices-fit .result) (c .if1 .taken)) (λ e. omega arith)
 
 returns-2 : tie.Need-returns-2
 unfolding frameAnswerOf questionsOf
 returns-2 c =
-    let n = c .before in
-    let i1 = n .before in
-    let f = i1 .before in
-    let q = f .before .before .args in
-    let at = byteAt (q .frame .now) in
-    refused _ (q .reply .now) (ask 5 (choicesFit at) ∷ []) 6 _
-    (sym (f .choices-fit .ensures) ∙ not-false (f .choices-fit .result) (i1 .if1 .left), tt)
-    (sym (n .check-finite .ensures) ∙ not-true (n .check-finite .result) (c .if2 .taken))
-    (λ e. omega arith)
+    let n = c .before in let i = n .before in
+    refused _ (lent i) (ask 5 (choicesFit (at i)) ∷ []) 6 _ (fits i, tt)
+    (sym (n .check-finite .ensures) ∙ not-true (n .check-finite .result) (c .if2 .taken)) (λ e. omega arith)
 
 returns-3 : tie.Need-returns-3
 unfolding frameAnswerOf questionsOf
 returns-3 c =
-    let i2 = c .before in
-    let n = i2 .before in
-    let i1 = n .before in
-    let f = i1 .before in
-    let q = f .before .before .args in
-    let at = byteAt (q .frame .now) in
-    refused _ (q .reply .now) (ask 5 (choicesFit at) ∷ ask 6 (checkFinite at) ∷ []) 8 _ (
-      sym (f .choices-fit .ensures) ∙ not-false (f .choices-fit .result) (i1 .if1 .left),
-      (sym (n .check-finite .ensures) ∙ not-false (n .check-finite .result) (i2 .if2 .left), tt),
-    )
-    (lt-leb recordPlaces (length (q .reply .now)) (c .if3 .taken))
-    (λ e. omega arith)
+    let i2 = c .before in let i = i2 .before .before in
+    refused _ (lent i) (ask 5 (choicesFit (at i)) ∷ ask 6 (checkFinite (at i)) ∷ []) 8 _ (fits i, (finite i2, tt))
+    (lt-leb recordPlaces (length (lent i)) (c .if3 .taken)) (λ e. omega arith)
 
 returns-4 : tie.Need-returns-4
 unfolding frameAnswerOf questionsOf replyOf
 returns-4 c =
-    let k = c .before .before in
-    let x = k .before .before in
-    let i3 = x .before in
-    let i2 = i3 .before in
-    let n = i2 .before in
-    let i1 = n .before in
-    let f = i1 .before in
-    let q = f .before .before .args in
-    let at = byteAt (q .frame .now) in
-    replied (replyOf OfCheck at) (q .reply .now) _ (
-      sym (f .choices-fit .ensures) ∙ not-false (f .choices-fit .result) (i1 .if1 .left),
-      (
-        sym (n .check-finite .ensures) ∙ not-false (n .check-finite .result) (i2 .if2 .left),
-        (le-leb recordPlaces (length (q .reply .now)) (i3 .if3 .left), tt),
-      ),
-    )
-    _
+    let k = c .before .before in let x = k .before .before in let i3 = x .before in let i2 = i3 .before in
+    let i = i2 .before .before in
+    replied (replyOf OfCheck (at i)) (lent i) _
+    (fits i, (finite i2, (le-leb recordPlaces (length (lent i)) (i3 .if3 .left), tt))) _
     (k .check-reply .ensures ∙ rw (x .check-numbers .ensures))
 
 pub check-line-spec : {M : Type 1} → statement M
