@@ -30,23 +30,15 @@ struct Asked {
     numbers: [f64; 5],
 }
 
-/// A record as the exported functions take it.
-#[derive(Clone)]
-struct Record {
-    /// t, t_sum, j.
-    sevens: [[f64; 7]; 3],
-    /// a, v, p.
-    eights: [[f64; 8]; 3],
-    /// pf, vf, af.
-    goal: [f64; 3],
-}
+/// A record as the exported functions take it: t, t_sum, j, a, v, p, pf, vf, af in one row.
+type Row = [f64; 48];
 
 /// The Rust keeps its own record, and the library's two ways another one.
 #[derive(Clone)]
 struct Case {
     asked: Asked,
     profile: Profile,
-    record: Record,
+    row: Row,
 }
 
 fn read(line: &[u8]) -> Case {
@@ -59,13 +51,16 @@ fn read(line: &[u8]) -> Case {
     let mut profile = Profile::default();
     profile.set_boundary(p0, v0, a0, pf, vf, af);
     profile.t = frame::numbers(&bytes, frame::CHECK_TIMES);
-    let record = record(&profile, [pf, vf, af]);
+    let row = row(&profile);
     let numbers = [jf, v_max, v_min, a_max, a_min];
-    Case { asked: Asked { signs, label, set_limits: set_limits == 1, numbers }, profile, record }
+    Case { asked: Asked { signs, label, set_limits: set_limits == 1, numbers }, profile, row }
 }
 
-fn record(of: &Profile, goal: [f64; 3]) -> Record {
-    Record { sevens: [of.t, of.t_sum, of.j], eights: [of.a, of.v, of.p], goal }
+fn row(of: &Profile) -> Row {
+    let sevens = [of.t, of.t_sum, of.j];
+    let eights = [of.a, of.v, of.p];
+    let numbers = [sevens.as_flattened(), eights.as_flattened(), &[of.pf, of.vf, of.af]].concat();
+    numbers.try_into().expect("48 numbers")
 }
 
 #[inline(always)]
@@ -80,21 +75,14 @@ macro_rules! by_library {
     ($($name:ident, $check:ident;)*) => {
         extern "C" {
             $(fn $check(
-                t: &[f64; 7], t_sum: &mut [f64; 7], j: &mut [f64; 7],
-                a: &mut [f64; 8], v: &mut [f64; 8], p: &mut [f64; 8], pf: f64, vf: f64, af: f64,
-                signs: u8, label: u8, set_limits: bool, jf: f64, v_max: f64, v_min: f64, a_max: f64, a_min: f64,
+                x: &mut Row, signs: u8, label: u8, set_limits: bool,
+                jf: f64, v_max: f64, v_min: f64, a_max: f64, a_min: f64,
             ) -> u32;)*
         }
         $(#[inline(always)]
-        fn $name(q: &Asked, r: &mut Record) -> u32 {
-            let ([t, t_sum, j], [a, v, p], [pf, vf, af]) = (&mut r.sevens, &mut r.eights, r.goal);
+        fn $name(q: &Asked, x: &mut Row) -> u32 {
             let [jf, v_max, v_min, a_max, a_min] = q.numbers;
-            unsafe {
-                $check(
-                    t, t_sum, j, a, v, p, pf, vf, af,
-                    q.signs, q.label, q.set_limits, jf, v_max, v_min, a_max, a_min,
-                )
-            }
+            unsafe { $check(x, q.signs, q.label, q.set_limits, jf, v_max, v_min, a_max, a_min) }
         })*
     };
 }
@@ -111,8 +99,8 @@ fn number(yes: bool, profile: &Profile) -> u32 {
         + 8 * profile.limits as u32
 }
 
-fn same<const N: usize>(ours: &[[f64; N]], theirs: &[[f64; N]]) -> bool {
-    let mut pairs = ours.as_flattened().iter().zip(theirs.as_flattened());
+fn same(ours: &Row, theirs: &Row) -> bool {
+    let mut pairs = ours.iter().zip(theirs);
     pairs.all(|(x, y)| x.to_bits() == y.to_bits() || x.is_nan() && y.is_nan())
 }
 
@@ -120,11 +108,11 @@ fn same<const N: usize>(ours: &[[f64; N]], theirs: &[[f64; N]]) -> bool {
 fn verdict(case: &Case) -> bool {
     let mut profile = case.profile.clone();
     let yes = by_rust(&case.asked, &mut profile);
-    let wanted = record(&profile, case.record.goal);
+    let wanted = row(&profile);
     for check in [in_place, by_value] {
-        let mut got = case.record.clone();
+        let mut got = case.row;
         assert_eq!(check(&case.asked, &mut got), number(yes, &profile));
-        assert!(same(&got.sevens, &wanted.sevens) && same(&got.eights, &wanted.eights));
+        assert!(same(&got, &wanted));
     }
     yes
 }
@@ -136,8 +124,8 @@ fn measure(title: &str, cases: &mut [Case]) {
         for case in black_box(&mut *cases) {
             match way {
                 0 => drop(black_box(by_rust(&case.asked, &mut case.profile))),
-                1 => drop(black_box(in_place(&case.asked, &mut case.record))),
-                _ => drop(black_box(by_value(&case.asked, &mut case.record))),
+                1 => drop(black_box(in_place(&case.asked, &mut case.row))),
+                _ => drop(black_box(by_value(&case.asked, &mut case.row))),
             }
         }
     });

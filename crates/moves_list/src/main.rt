@@ -36,14 +36,8 @@ fn send_record(c: Checked) -> bool {
         ok: c.ok,
         labels: q.labels(),
     };
-    let t = q.t;
-    let t_sum = q.t_sum;
-    let j = q.j;
-    let a = q.a;
-    let v = q.v;
-    let p = q.p;
     let mut reply = [0u8; RECORD];
-    write_record(&mut reply, answer, &t, &t_sum, &j, &a, &v, &p);
+    write_record(&mut reply, answer, &q.row());
     io::write_all(1, &reply)
 }
 
