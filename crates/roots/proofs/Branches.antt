@@ -8,7 +8,7 @@ use Rattle.roots.specs.declared.Three.{Three}
 use Rattle.roots.specs.declared.Factors.{Factors}
 use Rattle.roots.specs.declared.Need.{Need}
 use Rattle.roots.specs.declared.RootAnswer.{RootAnswer}
-use Rattle.roots.specs.Set.{insertAllOf}
+use Rattle.positive_set.specs.Set.{insertAllOf}
 use Rattle.roots.specs.Quartic.{needOf, chosenOf, factorsOf, quadraticOf, resolvedOf, offeredOf, rootsOf}
 
 -- in the branch of the need n, at the answer w

@@ -1,5 +1,4 @@
--- Laws of the set of roots and of the branches of the quartic; worked examples; what holds of all roots.
-pub mod Sets
+-- Laws of the branches of the quartic; worked examples; what holds of all roots.
 pub mod Branches
 pub mod Examples
 pub mod Laws

@@ -1,7 +1,7 @@
 -- `roots::solve_quart_monic_coeffs` is `rootsOf`, by the need and the answer. Assumes nothing.
 use borrow.Author.Needs.{needs}
 use mathlib.Core.Path.{refl}
-use Rattle.roots.specs.Set.{insertAllOf}
+use Rattle.positive_set.specs.Set.{insertAllOf}
 use Rattle.roots.specs.Quartic.{offeredOf}
 use Rattle.roots.proofs.Branches.{in-branch}
 use Rattle.roots.proofs.solve_quart_monic_coeffs.Statement.{statement}

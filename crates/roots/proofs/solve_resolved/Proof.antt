@@ -3,9 +3,9 @@ use Prim.Native.Nat.{zero-le}
 use mathlib.Core.Path.{sym, ap, _∙_}
 use mathlib.Core.List.{[]}
 use Rattle.float.specs.Ops.{#16ε}
-use Rattle.roots.specs.Set.{placesOf, insertAllOf}
+use Rattle.positive_set.specs.Set.{placesOf, insertAllOf}
 use Rattle.roots.specs.Quartic.{quadraticOf}
-use Rattle.roots.proofs.Sets.{insertAll-length, insertAll-append}
+use Rattle.positive_set.proofs.Sets.{insertAll-length, insertAll-append}
 use Rattle.roots.proofs.Branches.{by-factors}
 use Rattle.roots.proofs.solve_resolved.Statement.{statement}
 use Rattle.roots.proofs.solve_resolved.Tie as tie
