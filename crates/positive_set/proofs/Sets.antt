@@ -49,7 +49,8 @@ held s four =
       at1 = λ e. rw e (of-four (λ l. take 1 l ≡ getD l 0 nan ∷ []) (λ a b c d. refl) (s .«data») four);
       at2 = λ e. rw e (of-four (λ l. take 2 l ≡ getD l 0 nan ∷ getD l 1 nan ∷ []) (λ a b c d. refl) (s .«data») four);
       at3 = λ e. rw e
-          (of-four (λ l. take 3 l ≡ getD l 0 nan ∷ getD l 1 nan ∷ getD l 2 nan ∷ []) (λ a b c d. refl) (s .«data») four);
+          (of-four (λ l. take 3 l ≡ getD l 0 nan ∷ getD l 1 nan ∷ getD l 2 nan ∷ []) (λ a b c d. refl) (s .«data»)
+          four);
       full = λ r. take-all (s .len) (s .«data») (omega (arith, four, beyond (s .len) r))
           ∙ of-four (λ l. l ≡ getD l 0 nan ∷ getD l 1 nan ∷ getD l 2 nan ∷ getD l 3 nan ∷ []) (λ a b c d. refl)
           (s .«data») four;

@@ -1,16 +1,14 @@
 -- What holds of every quartic's roots, as found and in the order of trial: at most four, none below 0 or NaN, each an
 -- f64. That the order of trial ascends is in positive_set. Assumes nothing.
-use Prim.Native.Nat.{ℕ, _*_, _≤_, zero-le}
-use mathlib.Core.Path.{_≡_, refl, sym}
-use mathlib.Core.Bool.{Bool, true, false, not, cond, true≢false}
+use Prim.Native.Nat.{ℕ, _≤_, zero-le}
+use mathlib.Core.Bool.{Bool, true, false, cond}
 use mathlib.Core.List.{List, [], _∷_, _++_}
 use native.Mathlib.Omega.{arith}
-use lib.Dec.{T, ltb}
+use lib.Dec.{T}
 use lib.ListN.{length, length-append}
-use lib.Ieee.{Float, nan, inf, fin, binary64, ofBits, lt, le, neg, fits, isNan, up, down, below}
+use lib.Ieee.{Float, binary64, lt, le, neg, fits}
 use lib.Ieee.Fits.{neg-fits, div-fits}
 use lib.Ieee.Bits.{ofBits-fits}
-use borrow.Author.Tests.{ltb-true, le-ltb}
 use Rattle.float.specs.Ops.{_⊕_, _⊖_, _⊗_, _⊘_, #0, #2, #4, #ε, #16ε}
 use Rattle.float.specs.Helpers.{absOf}
 use Rattle.sqrt.specs.Sqrt.{sqrtOf}

@@ -1,4 +1,4 @@
-// The quartic of roots.rs: the roots that are not negative of x^4 + a x^3 + b x^2 + c x + d. Its set is in positive_set.
+// The quartic of roots.rs, x^4 + a x^3 + b x^2 + c x + d: its roots that are not negative. Their set is in positive_set.
 // Its cube root and the roots of its resolvent are worked out elsewhere and handed in as a `RootAnswer`.
 use float::abs;
 use float::near;
@@ -6,7 +6,7 @@ use float::pick;
 use positive_set::PositiveSet;
 use sqrt::sqrt;
 ghost use mathlib.Core.Path.{_≡_};
-ghost use mathlib.Core.List.{List, [], _∷_};
+ghost use mathlib.Core.List.{List, []};
 ghost use Prim.Native.Nat.{_≤_};
 ghost use lib.ListN.{length};
 ghost use lib.Ieee.{Float};

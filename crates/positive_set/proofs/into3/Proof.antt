@@ -8,7 +8,9 @@ unfolding intoOf
 into3-spec =
     tie.close
     (tie.spec (λ c κs. tt) (λ c κs. tt) (λ c κs. tt) (λ c κs. tt)
-    (λ c. let d = c .before in rw (c .set4 .ensures, d .before .before .if1 .taken, d .before .if2 .taken, d .if3 .taken))
-    (λ c. let d = c .before in rw (c .set42 .ensures, d .before .before .if1 .taken, d .before .if2 .taken, d .if3 .left))
+    (λ c. let d = c .before in let e = d .before in
+    rw (c .set4 .ensures, e .before .if1 .taken, e .if2 .taken, d .if3 .taken))
+    (λ c. let d = c .before in let e = d .before in
+    rw (c .set42 .ensures, e .before .if1 .taken, e .if2 .taken, d .if3 .left))
     (λ c. rw (c .set43 .ensures, c .before .before .if1 .taken, c .before .if2 .left))
     (λ c. rw (c .set44 .ensures, c .before .if1 .left)))
