@@ -6,6 +6,7 @@ use mathlib.Core.Bool.{cond}
 use lib.Dec.{T}
 use lib.Ieee.{Float}
 use lib.Ieee.Fits.{sub-fits, add-fits, div-fits, cond-fits}
+use lib.Ieee.Bits.{ofBits-fits}
 use Rattle.sqrt.proofs.Laws.{sqrtOf-fits}
 use Rattle.labels.specs.declared.ReachedLimits.{ReachedLimits}
 use Rattle.labels.specs.declared.ReachedLimits.the-variants.{Acc0, Acc0Acc1, None}
@@ -45,10 +46,6 @@ use Rattle.step2_attempt.specs.Attempt.{tryOf}
 use Rattle.step2_arrives.specs.Moves.{Numbers}
 use Rattle.step2_arrives.proofs.Sound.{Known, known, none-known, known-cond, AlwaysSound, sound-try}
 use Rattle.step2_arrives.proofs.Made.{Timed, replacing, leaving}
-use Rattle.step2_arrives.proofs.Attempts.{acc0-acc1-vel-uddu-fit, acc0-acc1-vel-udud-fit, acc1-vel-uddu-fit}
-use Rattle.step2_arrives.proofs.Attempts.{acc1-vel-udud-fit, acc0-vel-uddu-fit, acc0-vel-udud-fit}
-use Rattle.step2_arrives.proofs.Attempts.{acc0-acc1-rest-fit, acc0-acc1-uddu-fit, acc0-first-fit}
-use Rattle.step2_arrives.proofs.Attempts.{acc0-second-fit, acc0-third-fit}
 
 module _ {m : Move} (n : Numbers m) where
   abbrev s : PositionThirdOrderStep2
@@ -66,7 +63,8 @@ module _ {m : Move} (n : Numbers m) where
   abbrev j-max : Float
   j-max = m .«j_max»
 
-  -- ---- the times of each attempt are known: how long they last, and what the label's 0 for a[3] is off by
+  -- ---- the times of each attempt are known: they fit binary64, each being the result of an operation, a literal, or a
+  -- number that fits; how long they last, and what the label's 0 for a[3] is off by
   numbers : SixNumbers (m .tf) (m .a0) (m .af) a-max a-min j-max
   numbers =
       record {
@@ -82,73 +80,71 @@ module _ {m : Move} (n : Numbers m) where
   acc0-acc1-vel-uddu-timed : {limits : ReachedLimits} (h1 t1 : Float) → Fits64 t1
       → Timed limits (m .tf) (m .a0) j-max (acc0Acc1VelUdduTimes s a-max a-min j-max h1 t1)
   acc0-acc1-vel-uddu-timed h1 t1 f-t1 =
-      replacing (acc0-acc1-vel-uddu-fit s a-max a-min j-max h1 t1 f-t1)
+      replacing (unfold acc0Acc1VelUdduTimes in search (add-fits, sub-fits, div-fits))
       (λ t. acc0-acc1-vel-uddu (m .tf) (m .p0) (m .v0) (m .a0) (m .pf) (m .vf) (m .af) a-max a-min j-max numbers h1 t1)
 
   acc0-acc1-vel-udud-timed : {limits : ReachedLimits} (t1 t3 : Float) → Fits64 t1 → Fits64 t3
       → Timed limits (m .tf) (m .a0) j-max (acc0Acc1VelUdudTimes s a-max j-max t1 t3)
   acc0-acc1-vel-udud-timed t1 t3 f-t1 f-t3 =
-      replacing (acc0-acc1-vel-udud-fit s a-max a-min j-max t1 t3 f-t1 f-t3)
+      replacing (unfold acc0Acc1VelUdudTimes in search (sub-fits, div-fits))
       (λ t. acc0-acc1-vel-udud (m .tf) (m .p0) (m .v0) (m .a0) (m .pf) (m .vf) (m .af) a-max a-min j-max numbers t1 t3)
 
   -- `time_acc1_vel`
   acc1-vel-uddu-timed : {limits : ReachedLimits} (r h1 : Float) → Fits64 r → Fits64 h1
       → Timed limits (m .tf) (m .a0) j-max (acc1VelUdduTimes s a-min j-max r h1)
   acc1-vel-uddu-timed r h1 f-r f-h1 =
-      replacing (acc1-vel-uddu-fit s a-max a-min j-max r h1 f-r)
+      replacing (unfold acc1VelUdduTimes in search (add-fits, sub-fits, div-fits, ofBits-fits))
       (λ t. acc1-vel-uddu (m .tf) (m .p0) (m .v0) (m .a0) (m .pf) (m .vf) (m .af) a-max a-min j-max numbers r h1 f-h1)
 
   acc1-vel-udud-timed : {limits : ReachedLimits} (r h1 : Float) → Fits64 r → Fits64 h1
       → Timed limits (m .tf) (m .a0) j-max (acc1VelUdudTimes s a-max j-max r h1)
   acc1-vel-udud-timed r h1 f-r f-h1 =
-      replacing (acc1-vel-udud-fit s a-max a-min j-max r h1 f-r)
+      replacing (unfold acc1VelUdudTimes in search (add-fits, sub-fits, div-fits, ofBits-fits))
       (λ t. acc1-vel-udud (m .tf) (m .p0) (m .v0) (m .a0) (m .pf) (m .vf) (m .af) a-max a-min j-max numbers r h1 f-h1)
 
   -- `time_acc0_vel`
   acc0-vel-uddu-timed : {limits : ReachedLimits} (r h1 : Float) → Fits64 r → Fits64 h1
       → Timed limits (m .tf) (m .a0) j-max (acc0VelUdduTimes s a-max j-max r h1)
   acc0-vel-uddu-timed r h1 f-r f-h1 =
-      replacing (acc0-vel-uddu-fit s a-max a-min j-max r h1 f-r)
+      replacing (unfold acc0VelUdduTimes in search (add-fits, sub-fits, div-fits, ofBits-fits))
       (λ t. acc0-vel-uddu (m .tf) (m .p0) (m .v0) (m .a0) (m .pf) (m .vf) (m .af) a-max a-min j-max numbers r h1 f-h1)
 
   acc0-vel-udud-timed : {limits : ReachedLimits} (r h1 : Float) → Fits64 r → Fits64 h1
       → Timed limits (m .tf) (m .a0) j-max (acc0VelUdudTimes s a-max j-max r h1)
   acc0-vel-udud-timed r h1 f-r f-h1 =
-      replacing (acc0-vel-udud-fit s a-max a-min j-max r h1 f-r)
+      replacing (unfold acc0VelUdudTimes in search (add-fits, sub-fits, div-fits, ofBits-fits))
       (λ t. acc0-vel-udud (m .tf) (m .p0) (m .v0) (m .a0) (m .pf) (m .vf) (m .af) a-max a-min j-max numbers r h1 f-h1)
 
   -- `time_acc0_acc1`, which computes its own jerk
   acc0-acc1-rest-timed : {limits : ReachedLimits} (jf t1 : Float) → Fits64 t1 → T (acc0Acc1RestApplies s)
       → Timed limits (m .tf) (m .a0) jf (acc0Acc1RestTimes s a-max a-min jf t1)
   acc0-acc1-rest-timed jf t1 f-t1 z =
-      replacing (acc0-acc1-rest-fit s a-max a-min j-max jf t1 f-t1)
+      replacing (unfold acc0Acc1RestTimes in search (sub-fits, div-fits, ofBits-fits))
       (λ t. acc0-acc1-rest (m .tf) (m .p0) (m .v0) (m .a0) (m .pf) (m .vf) (m .af) a-max a-min j-max numbers jf t1 z)
 
   acc0-acc1-uddu-timed : {limits : ReachedLimits} (jf : Float) → Fits64 jf
       → Timed limits (m .tf) (m .a0) jf (acc0Acc1UdduTimes s a-max a-min jf (acc0Acc1UdduT1 s a-max a-min jf))
   acc0-acc1-uddu-timed jf f-jf =
-      replacing
-      (acc0-acc1-uddu-fit s a-max a-min j-max jf (acc0Acc1UdduT1 s a-max a-min jf)
-      (unfold acc0Acc1UdduT1 in search (div-fits)))
+      replacing (unfold acc0Acc1UdduTimes acc0Acc1UdduT1 in search (add-fits, sub-fits, div-fits, ofBits-fits))
       (λ t. acc0-acc1-uddu (m .tf) (m .p0) (m .v0) (m .a0) (m .pf) (m .vf) (m .af) a-max a-min j-max numbers jf f-jf)
 
   -- `time_acc0`, under labels that replace nothing
   acc0-first-timed : (h1 : Float) → Fits64 h1
       → Timed None (m .tf) (m .a0) j-max (acc0FirstTimes s a-max j-max h1)
   acc0-first-timed h1 f-h1 =
-      leaving (unfold testsOf in refl) (acc0-first-fit s a-max a-min j-max h1 f-h1)
+      leaving (unfold testsOf in refl) (unfold acc0FirstTimes in search (add-fits, sub-fits, div-fits, ofBits-fits))
       (λ t. acc0-first (m .tf) (m .p0) (m .v0) (m .a0) (m .pf) (m .vf) (m .af) a-max a-min j-max numbers h1)
 
   acc0-second-timed : (h0 h1 t1 : Float) → Fits64 t1
       → Timed None (m .tf) (m .a0) j-max (acc0SecondTimes s a-max j-max h0 h1 t1)
   acc0-second-timed h0 h1 t1 f-t1 =
-      leaving (unfold testsOf in refl) (acc0-second-fit s a-max a-min j-max h0 h1 t1 f-t1)
+      leaving (unfold testsOf in refl) (unfold acc0SecondTimes in search (sub-fits, div-fits, ofBits-fits))
       (λ t. acc0-second (m .tf) (m .p0) (m .v0) (m .a0) (m .pf) (m .vf) (m .af) a-max a-min j-max numbers h0 h1 t1)
 
   acc0-third-timed : (h0a h1 h2 : Float)
       → Timed Acc0 (m .tf) (m .a0) j-max (acc0ThirdTimes s a-max j-max h0a h1 h2)
   acc0-third-timed h0a h1 h2 =
-      leaving (unfold testsOf in refl) (acc0-third-fit s a-max a-min j-max h0a h1 h2)
+      leaving (unfold testsOf in refl) (unfold acc0ThirdTimes in search (add-fits, sub-fits, div-fits, ofBits-fits))
       (λ t. acc0-third (m .tf) (m .p0) (m .v0) (m .a0) (m .pf) (m .vf) (m .af) a-max a-min j-max numbers h0a h1 h2)
 
   -- ---- the trials
