@@ -2,7 +2,7 @@
 -- what a set of a list's places holds, and what the code's tests compute.
 use Prim.Native.Nat.{ℕ, suc, _≤_, _<_}
 use mathlib.Core.Path.{_≡_, refl, ap, _∙_}
-use mathlib.Core.Bool.{Bool, true, false, not, cond, _&&_, _||_}
+use mathlib.Core.Bool.{Bool, true, false, not, cond, _&&_}
 use mathlib.Core.List.{List, [], _∷_, _++_}
 use native.Mathlib.Omega.{arith}
 use lib.Dec.{T, ltb}
@@ -13,14 +13,6 @@ use borrow.Author.Tests.{ltb-true}
 use Rattle.float.specs.Ops.{#0}
 use Rattle.positive_set.specs.declared.PositiveSet.{PositiveSet}
 use Rattle.positive_set.specs.Set.{heldOf, placesOf, holds, insertOf, insertAllOf, intoOf, sortedOf}
-
-pub or-false : (b : Bool) → (b || false) ≡ b
-or-false true = refl
-or-false false = refl
-
-pub and-true : (b : Bool) → (b && true) ≡ b
-and-true true = refl
-and-true false = refl
 
 -- ---- a list of four numbers by its elements
 module _ (P : List Float → Type 0) (p : (a b c d : Float) → P (a ∷ b ∷ c ∷ d ∷ [])) where

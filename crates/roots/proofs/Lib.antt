@@ -1,4 +1,3 @@
--- Laws of the branches of the quartic; worked examples; what holds of all roots.
-pub mod Branches
+-- Worked quartics; what holds of all roots.
 pub mod Examples
 pub mod Laws

@@ -1,6 +1,6 @@
 -- `positive_set::insert1` is `insertOf` at one number held. Assumes nothing.
+use mathlib.Core.Bool.{or-false, and-true}
 use Rattle.positive_set.specs.Set.{holds, insertOf}
-use Rattle.positive_set.proofs.Sets.{or-false, and-true}
 use Rattle.positive_set.proofs.insert1.Statement.{statement}
 use Rattle.positive_set.proofs.insert1.Tie as tie
 

@@ -1,12 +1,11 @@
 -- `roots::solve_quart_monic_coeffs` is `rootsOf`, by the need and the answer. Assumes nothing.
 use borrow.Author.Needs.{needs}
-use mathlib.Core.Path.{_≡_, refl}
+use mathlib.Core.Path.{_≡_, refl, sym, ap, _∙_}
 use mathlib.Core.List.{[]}
 use Rattle.roots.specs.declared.Need.{Need}
 use Rattle.roots.specs.declared.RootAnswer.{RootAnswer}
 use Rattle.positive_set.specs.Set.{insertAllOf}
 use Rattle.roots.specs.Quartic.{offeredOf, rootsOf}
-use Rattle.roots.proofs.Branches.{in-branch}
 use Rattle.roots.proofs.solve_quart_monic_coeffs.Statement.{statement}
 use Rattle.roots.proofs.solve_quart_monic_coeffs.Tie as tie
 
@@ -14,7 +13,12 @@ use Rattle.roots.proofs.solve_quart_monic_coeffs.Tie as tie
 branch : (c : tie.After-quartic-need) {n : Need} {w : RootAnswer} → let a = c .before .args in
     c .quartic-need .result ≡ n → a .answer ≡ w
     → rootsOf (a .a) (a .b) (a .c) (a .d) (a .answer) ≡ insertAllOf [] (offeredOf (a .a) (a .b) (a .c) (a .d) n w)
-branch c e f = let a = c .before .args in in-branch (a .a) (a .b) (a .c) (a .d) (c .quartic-need .ensures) e f
+unfolding rootsOf
+branch c {n} {w} e f =
+    let a = c .before .args in
+    ap (λ (k : Need). insertAllOf [] (offeredOf (a .a) (a .b) (a .c) (a .d) k (a .answer)))
+    (sym (c .quartic-need .ensures) ∙ e)
+    ∙ ap (λ (v : RootAnswer). insertAllOf [] (offeredOf (a .a) (a .b) (a .c) (a .d) n v)) f
 
 pub solve-quart-monic-coeffs-spec : {M : Type 1} → statement M
 unfolding offeredOf insertAllOf
