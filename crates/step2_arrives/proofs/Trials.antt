@@ -1,6 +1,6 @@
 -- Of every trial of the five shapes enough is known: by the facts of its times, for whatever its formulas hand to them.
--- The root and the numbers h1, t1, .. are any f64s: only the formulas of the times count. So another t[1] in the rest
--- formula asks for no more than `acc0-acc1-rest-timed`. Assumes nothing.
+-- The root is any f64: only the formulas of the times count. So another t[1] in the rest formula asks for no more than
+-- `rest-sound` does. Assumes nothing.
 use mathlib.Core.Path.{refl}
 use mathlib.Core.Bool.{cond}
 use lib.Dec.{T}
@@ -9,7 +9,7 @@ use lib.Ieee.Fits.{sub-fits, add-fits, div-fits, cond-fits}
 use lib.Ieee.Bits.{ofBits-fits}
 use Rattle.sqrt.proofs.Laws.{sqrtOf-fits}
 use Rattle.labels.specs.declared.ReachedLimits.{ReachedLimits}
-use Rattle.labels.specs.declared.ReachedLimits.the-variants.{Acc0, Acc0Acc1, None}
+use Rattle.labels.specs.declared.ReachedLimits.the-variants.{Acc0Acc1}
 use Rattle.labels.specs.declared.ControlSigns.{ControlSigns}
 use Rattle.labels.specs.declared.ControlSigns.the-variants.{UDDU}
 use Rattle.labels.specs.Tests.{testsOf}
@@ -63,8 +63,7 @@ module _ {m : Move} (n : Numbers m) where
   abbrev j-max : Float
   j-max = m .«j_max»
 
-  -- ---- the times of each attempt are known: they fit binary64, each being the result of an operation, a literal, or a
-  -- number that fits; how long they last, and what the label's 0 for a[3] is off by
+  -- ---- what the facts of the times ask, and a trial with the jerk j_max
   numbers : SixNumbers (m .tf) (m .a0) (m .af) a-max a-min j-max
   numbers =
       record {
@@ -76,100 +75,33 @@ module _ {m : Move} (n : Numbers m) where
         of-j-max = n .of-j-max;
       }
 
-  -- `time_acc0_acc1_vel`
-  acc0-acc1-vel-uddu-timed : {limits : ReachedLimits} (h1 t1 : Float) → Fits64 t1
-      → Timed limits (m .tf) (m .a0) j-max (acc0Acc1VelUdduTimes s a-max a-min j-max h1 t1)
-  acc0-acc1-vel-uddu-timed h1 t1 f-t1 =
-      replacing (unfold acc0Acc1VelUdduTimes in search (add-fits, sub-fits, div-fits))
-      (λ t. acc0-acc1-vel-uddu (m .tf) (m .p0) (m .v0) (m .a0) (m .pf) (m .vf) (m .af) a-max a-min j-max numbers h1 t1)
-
-  acc0-acc1-vel-udud-timed : {limits : ReachedLimits} (t1 t3 : Float) → Fits64 t1 → Fits64 t3
-      → Timed limits (m .tf) (m .a0) j-max (acc0Acc1VelUdudTimes s a-max j-max t1 t3)
-  acc0-acc1-vel-udud-timed t1 t3 f-t1 f-t3 =
-      replacing (unfold acc0Acc1VelUdudTimes in search (sub-fits, div-fits))
-      (λ t. acc0-acc1-vel-udud (m .tf) (m .p0) (m .v0) (m .a0) (m .pf) (m .vf) (m .af) a-max a-min j-max numbers t1 t3)
-
-  -- `time_acc1_vel`
-  acc1-vel-uddu-timed : {limits : ReachedLimits} (r h1 : Float) → Fits64 r → Fits64 h1
-      → Timed limits (m .tf) (m .a0) j-max (acc1VelUdduTimes s a-min j-max r h1)
-  acc1-vel-uddu-timed r h1 f-r f-h1 =
-      replacing (unfold acc1VelUdduTimes in search (add-fits, sub-fits, div-fits, ofBits-fits))
-      (λ t. acc1-vel-uddu (m .tf) (m .p0) (m .v0) (m .a0) (m .pf) (m .vf) (m .af) a-max a-min j-max numbers r h1 f-h1)
-
-  acc1-vel-udud-timed : {limits : ReachedLimits} (r h1 : Float) → Fits64 r → Fits64 h1
-      → Timed limits (m .tf) (m .a0) j-max (acc1VelUdudTimes s a-max j-max r h1)
-  acc1-vel-udud-timed r h1 f-r f-h1 =
-      replacing (unfold acc1VelUdudTimes in search (add-fits, sub-fits, div-fits, ofBits-fits))
-      (λ t. acc1-vel-udud (m .tf) (m .p0) (m .v0) (m .a0) (m .pf) (m .vf) (m .af) a-max a-min j-max numbers r h1 f-h1)
-
-  -- `time_acc0_vel`
-  acc0-vel-uddu-timed : {limits : ReachedLimits} (r h1 : Float) → Fits64 r → Fits64 h1
-      → Timed limits (m .tf) (m .a0) j-max (acc0VelUdduTimes s a-max j-max r h1)
-  acc0-vel-uddu-timed r h1 f-r f-h1 =
-      replacing (unfold acc0VelUdduTimes in search (add-fits, sub-fits, div-fits, ofBits-fits))
-      (λ t. acc0-vel-uddu (m .tf) (m .p0) (m .v0) (m .a0) (m .pf) (m .vf) (m .af) a-max a-min j-max numbers r h1 f-h1)
-
-  acc0-vel-udud-timed : {limits : ReachedLimits} (r h1 : Float) → Fits64 r → Fits64 h1
-      → Timed limits (m .tf) (m .a0) j-max (acc0VelUdudTimes s a-max j-max r h1)
-  acc0-vel-udud-timed r h1 f-r f-h1 =
-      replacing (unfold acc0VelUdudTimes in search (add-fits, sub-fits, div-fits, ofBits-fits))
-      (λ t. acc0-vel-udud (m .tf) (m .p0) (m .v0) (m .a0) (m .pf) (m .vf) (m .af) a-max a-min j-max numbers r h1 f-h1)
-
-  -- `time_acc0_acc1`, which computes its own jerk
-  acc0-acc1-rest-timed : {limits : ReachedLimits} (jf t1 : Float) → Fits64 t1 → T (acc0Acc1RestApplies s)
-      → Timed limits (m .tf) (m .a0) jf (acc0Acc1RestTimes s a-max a-min jf t1)
-  acc0-acc1-rest-timed jf t1 f-t1 z =
-      replacing (unfold acc0Acc1RestTimes in search (sub-fits, div-fits, ofBits-fits))
-      (λ t. acc0-acc1-rest (m .tf) (m .p0) (m .v0) (m .a0) (m .pf) (m .vf) (m .af) a-max a-min j-max numbers jf t1 z)
-
-  acc0-acc1-uddu-timed : {limits : ReachedLimits} (jf : Float) → Fits64 jf
-      → Timed limits (m .tf) (m .a0) jf (acc0Acc1UdduTimes s a-max a-min jf (acc0Acc1UdduT1 s a-max a-min jf))
-  acc0-acc1-uddu-timed jf f-jf =
-      replacing (unfold acc0Acc1UdduTimes acc0Acc1UdduT1 in search (add-fits, sub-fits, div-fits, ofBits-fits))
-      (λ t. acc0-acc1-uddu (m .tf) (m .p0) (m .v0) (m .a0) (m .pf) (m .vf) (m .af) a-max a-min j-max numbers jf f-jf)
-
-  -- `time_acc0`, under labels that replace nothing
-  acc0-first-timed : (h1 : Float) → Fits64 h1
-      → Timed None (m .tf) (m .a0) j-max (acc0FirstTimes s a-max j-max h1)
-  acc0-first-timed h1 f-h1 =
-      leaving (unfold testsOf in refl) (unfold acc0FirstTimes in search (add-fits, sub-fits, div-fits, ofBits-fits))
-      (λ t. acc0-first (m .tf) (m .p0) (m .v0) (m .a0) (m .pf) (m .vf) (m .af) a-max a-min j-max numbers h1)
-
-  acc0-second-timed : (h0 h1 t1 : Float) → Fits64 t1
-      → Timed None (m .tf) (m .a0) j-max (acc0SecondTimes s a-max j-max h0 h1 t1)
-  acc0-second-timed h0 h1 t1 f-t1 =
-      leaving (unfold testsOf in refl) (unfold acc0SecondTimes in search (sub-fits, div-fits, ofBits-fits))
-      (λ t. acc0-second (m .tf) (m .p0) (m .v0) (m .a0) (m .pf) (m .vf) (m .af) a-max a-min j-max numbers h0 h1 t1)
-
-  acc0-third-timed : (h0a h1 h2 : Float)
-      → Timed Acc0 (m .tf) (m .a0) j-max (acc0ThirdTimes s a-max j-max h0a h1 h2)
-  acc0-third-timed h0a h1 h2 =
-      leaving (unfold testsOf in refl) (unfold acc0ThirdTimes in search (add-fits, sub-fits, div-fits, ofBits-fits))
-      (λ t. acc0-third (m .tf) (m .p0) (m .v0) (m .a0) (m .pf) (m .vf) (m .af) a-max a-min j-max numbers h0a h1 h2)
-
-  -- ---- the trials
   by-j-max : {x : Times} {signs : ControlSigns} {label : ReachedLimits} → Timed label (m .tf) (m .a0) j-max x
       → Known m (trialOf x signs label j-max)
   by-j-max h = known h (n .of-j-max .held)
 
+  -- The times fit binary64, each being the result of an operation, a literal, or a number that fits; the facts say how
+  -- long they last, and what the label's 0 for a[3] is off by.
   -- ---- `time_acc0_acc1_vel`
   pub acc0-acc1-vel-uddu-known : Known m (acc0Acc1VelUddu s l)
   unfolding acc0Acc1VelUddu
   acc0-acc1-vel-uddu-known =
-      let h1 = acc0Acc1VelUdduH1 s a-max a-min j-max in
-      let t1 = acc0Acc1VelUdduT1 s a-max a-min j-max h1 in
+      let h1 = acc0Acc1VelUdduH1 s a-max a-min j-max in let t1 = acc0Acc1VelUdduT1 s a-max a-min j-max h1 in
       known-cond (acc0Acc1VelUdduApplies s a-max a-min j-max)
-      (λ z. by-j-max (acc0-acc1-vel-uddu-timed h1 t1 (unfold acc0Acc1VelUdduT1 in search (div-fits)))) (λ z. none-known)
+      (λ z. by-j-max
+      (replacing (unfold acc0Acc1VelUdduTimes acc0Acc1VelUdduT1 in search (add-fits, sub-fits, div-fits))
+      (λ t. acc0-acc1-vel-uddu (m .tf) (m .p0) (m .v0) (m .a0) (m .pf) (m .vf) (m .af) a-max a-min j-max numbers h1 t1)))
+      (λ z. none-known)
 
   pub acc0-acc1-vel-udud-known : Known m (acc0Acc1VelUdud s l)
   unfolding acc0Acc1VelUdud
   acc0-acc1-vel-udud-known =
-      let t1 = acc0Acc1VelUdudT1 s a-max j-max in
-      let t3 = acc0Acc1VelUdudT3 s a-max j-max in
+      let t1 = acc0Acc1VelUdudT1 s a-max j-max in let t3 = acc0Acc1VelUdudT3 s a-max j-max in
       known-cond (acc0Acc1VelUdudApplies s a-max j-max)
       (λ z. by-j-max
-      (acc0-acc1-vel-udud-timed t1 t3 (unfold acc0Acc1VelUdudT1 in search (div-fits))
-      (unfold acc0Acc1VelUdudT3 in search (add-fits)))) (λ z. none-known)
+      (replacing
+      (unfold acc0Acc1VelUdudTimes acc0Acc1VelUdudT1 acc0Acc1VelUdudT3 in search (add-fits, sub-fits, div-fits))
+      (λ t. acc0-acc1-vel-udud (m .tf) (m .p0) (m .v0) (m .a0) (m .pf) (m .vf) (m .af) a-max a-min j-max numbers t1 t3)))
+      (λ z. none-known)
 
   -- ---- `time_acc1_vel` and `time_acc0_vel`, whose trials are made inside a window alone
   module _ (w : Window) (root : Float) (f : Fits64 root) where
@@ -179,37 +111,46 @@ module _ {m : Move} (n : Numbers m) where
     pub acc1-vel-uddu-known : Known m (acc1VelUddu s l w root)
     unfolding acc1VelUddu
     acc1-vel-uddu-known =
-        let t = acc1VelUdduNewton s a-min j-max root in let h1 = acc1VelUdduH1 s a-min j-max t in
-        inside
-        (by-j-max (acc1-vel-uddu-timed t h1 (unfold acc1VelUdduNewton in search (cond-fits, sub-fits))
-        (unfold acc1VelUdduH1 in search (div-fits))))
+        let r = acc1VelUdduNewton s a-min j-max root in let h1 = acc1VelUdduH1 s a-min j-max r in
+        inside (by-j-max (replacing
+        (unfold acc1VelUdduTimes acc1VelUdduNewton in search (cond-fits, add-fits, sub-fits, div-fits, ofBits-fits))
+        (λ t. acc1-vel-uddu (m .tf) (m .p0) (m .v0) (m .a0) (m .pf) (m .vf) (m .af) a-max a-min j-max numbers r h1
+        (unfold acc1VelUdduH1 in search (div-fits)))))
 
     pub acc1-vel-udud-known : Known m (acc1VelUdud s l w root)
     unfolding acc1VelUdud
     acc1-vel-udud-known =
         let h1 = acc1VelUdudH1 s a-max j-max root in
-        inside (by-j-max (acc1-vel-udud-timed root h1 f (unfold acc1VelUdudH1 in search (div-fits))))
+        inside (by-j-max (replacing (unfold acc1VelUdudTimes in search (add-fits, sub-fits, div-fits, ofBits-fits))
+        (λ t. acc1-vel-udud (m .tf) (m .p0) (m .v0) (m .a0) (m .pf) (m .vf) (m .af) a-max a-min j-max numbers root h1
+        (unfold acc1VelUdudH1 in search (div-fits)))))
 
     pub acc0-vel-uddu-known : Known m (acc0VelUddu s l w root)
     unfolding acc0VelUddu
     acc0-vel-uddu-known =
-        let t = acc0VelUdduNewton s a-max j-max root in let h1 = acc0VelUdduH1 s a-max j-max t in
-        inside
-        (by-j-max (acc0-vel-uddu-timed t h1 (unfold acc0VelUdduNewton in search (cond-fits, sub-fits))
-        (unfold acc0VelUdduH1 in search (div-fits))))
+        let r = acc0VelUdduNewton s a-max j-max root in let h1 = acc0VelUdduH1 s a-max j-max r in
+        inside (by-j-max (replacing
+        (unfold acc0VelUdduTimes acc0VelUdduNewton in search (cond-fits, add-fits, sub-fits, div-fits, ofBits-fits))
+        (λ t. acc0-vel-uddu (m .tf) (m .p0) (m .v0) (m .a0) (m .pf) (m .vf) (m .af) a-max a-min j-max numbers r h1
+        (unfold acc0VelUdduH1 in search (div-fits)))))
 
     pub acc0-vel-udud-known : Known m (acc0VelUdud s l w root)
     unfolding acc0VelUdud
     acc0-vel-udud-known =
-        let t = acc0VelUdudNewton s a-max j-max root in let h1 = acc0VelUdudH1 s a-max j-max t in
-        inside
-        (by-j-max (acc0-vel-udud-timed t h1 (unfold acc0VelUdudNewton in search (sub-fits))
-        (unfold acc0VelUdudH1 in search (div-fits))))
+        let r = acc0VelUdudNewton s a-max j-max root in let h1 = acc0VelUdudH1 s a-max j-max r in
+        inside (by-j-max (replacing
+        (unfold acc0VelUdudTimes acc0VelUdudNewton in search (add-fits, sub-fits, div-fits, ofBits-fits))
+        (λ t. acc0-vel-udud (m .tf) (m .p0) (m .v0) (m .a0) (m .pf) (m .vf) (m .af) a-max a-min j-max numbers r h1
+        (unfold acc0VelUdudH1 in search (div-fits)))))
 
-  -- ---- `time_acc0_acc1`: the rest formula with any t[1] that is an f64
+  -- ---- `time_acc0_acc1`, which computes its own jerk: the rest formula with any t[1] that is an f64
   module _ (jf t1 : Float) (f : Fits64 jf) (g : Fits64 t1) (z : T (acc0Acc1RestApplies s)) where
     rest-known : Known m (trialOf (acc0Acc1RestTimes s a-max a-min jf t1) UDDU Acc0Acc1 jf)
-    rest-known = known (acc0-acc1-rest-timed jf t1 g z) f
+    rest-known =
+        known
+        (replacing (unfold acc0Acc1RestTimes in search (sub-fits, div-fits, ofBits-fits))
+        (λ t. acc0-acc1-rest (m .tf) (m .p0) (m .v0) (m .a0) (m .pf) (m .vf) (m .af) a-max a-min j-max numbers jf t1 z))
+        f
 
     pub rest-sound : AlwaysSound m (tryOf l (trialOf (acc0Acc1RestTimes s a-max a-min jf t1) UDDU Acc0Acc1 jf))
     rest-sound = sound-try (trialOf (acc0Acc1RestTimes s a-max a-min jf t1) UDDU Acc0Acc1 jf) rest-known
@@ -217,44 +158,50 @@ module _ {m : Move} (n : Numbers m) where
   acc0-acc1-rest-known : T (acc0Acc1RestApplies s) → Known m (acc0Acc1Rest s l)
   unfolding acc0Acc1Rest
   acc0-acc1-rest-known z =
-      let h1 = acc0Acc1RestH1 s a-max a-min in
-      let h2 = acc0Acc1RestH2 s a-max a-min in
+      let h1 = acc0Acc1RestH1 s a-max a-min in let h2 = acc0Acc1RestH2 s a-max a-min in
       rest-known (acc0Acc1RestJf h1 h2) (acc0Acc1RestT1 s a-max a-min h1 h2)
-      (unfold acc0Acc1RestJf in search (div-fits))
-      (unfold acc0Acc1RestT1 in search (div-fits))
-      z
+      (unfold acc0Acc1RestJf in search (div-fits)) (unfold acc0Acc1RestT1 in search (div-fits)) z
 
   acc0-acc1-uddu-known : Known m (acc0Acc1Uddu s l)
   unfolding acc0Acc1Uddu
   acc0-acc1-uddu-known =
       let jf = acc0Acc1UdduJf s a-max a-min (acc0Acc1UdduH1 s a-max a-min) in
       let f : Fits64 jf = unfold acc0Acc1UdduJf in search (div-fits) in
-      known (acc0-acc1-uddu-timed jf f) f
+      known
+      (replacing (unfold acc0Acc1UdduTimes acc0Acc1UdduT1 in search (add-fits, sub-fits, div-fits, ofBits-fits))
+      (λ t. acc0-acc1-uddu (m .tf) (m .p0) (m .v0) (m .a0) (m .pf) (m .vf) (m .af) a-max a-min j-max numbers jf f))
+      f
 
   pub acc0-acc1-known : Known m (cond (acc0Acc1RestApplies s) (acc0Acc1Rest s l) (acc0Acc1Uddu s l))
   acc0-acc1-known = known-cond (acc0Acc1RestApplies s) acc0-acc1-rest-known (λ z. acc0-acc1-uddu-known)
 
-  -- ---- `time_acc0`
+  -- ---- `time_acc0`, under labels that replace nothing
   pub acc0-first-known : Known m (acc0First s l)
   unfolding acc0First
   acc0-first-known =
-      let h1 = acc0FirstH1 s a-max j-max in
-      by-j-max (acc0-first-timed h1 (unfold acc0FirstH1 in search (sqrtOf-fits, add-fits)))
+      by-j-max
+      (leaving (unfold testsOf in refl)
+      (unfold acc0FirstTimes acc0FirstH1 in search (sqrtOf-fits, add-fits, sub-fits, div-fits, ofBits-fits))
+      (λ t. acc0-first (m .tf) (m .p0) (m .v0) (m .a0) (m .pf) (m .vf) (m .af) a-max a-min j-max numbers
+      (acc0FirstH1 s a-max j-max)))
 
   pub acc0-second-known : Known m (acc0Second s l)
   unfolding acc0Second
   acc0-second-known =
-      let h0a = acc0SecondH0a s a-max j-max in
-      let h0 = acc0SecondH0 j-max h0a (acc0SecondH0b s a-max j-max) in
+      let h0a = acc0SecondH0a s a-max j-max in let h0 = acc0SecondH0 j-max h0a (acc0SecondH0b s a-max j-max) in
       let h1 = acc0SecondH1 j-max h0a in
-      let t1 = acc0SecondT1 s a-max j-max h1 in
-      by-j-max (acc0-second-timed h0 h1 t1 (unfold acc0SecondT1 in search (div-fits)))
+      by-j-max
+      (leaving (unfold testsOf in refl)
+      (unfold acc0SecondTimes acc0SecondT1 in search (sub-fits, div-fits, ofBits-fits))
+      (λ t. acc0-second (m .tf) (m .p0) (m .v0) (m .a0) (m .pf) (m .vf) (m .af) a-max a-min j-max numbers h0 h1
+      (acc0SecondT1 s a-max j-max h1)))
 
   pub acc0-third-known : Known m (acc0Third s l)
   unfolding acc0Third
   acc0-third-known =
-      let h0a = acc0ThirdH0a s a-max j-max in
-      let h0b = acc0ThirdH0b s a-max j-max in
-      let h1 = acc0ThirdH1 j-max h0a h0b in
-      let h2 = acc0ThirdH2 j-max h0b in
-      by-j-max (acc0-third-timed h0a h1 h2)
+      let h0a = acc0ThirdH0a s a-max j-max in let h0b = acc0ThirdH0b s a-max j-max in
+      by-j-max
+      (leaving (unfold testsOf in refl)
+      (unfold acc0ThirdTimes in search (add-fits, sub-fits, div-fits, ofBits-fits))
+      (λ t. acc0-third (m .tf) (m .p0) (m .v0) (m .a0) (m .pf) (m .vf) (m .af) a-max a-min j-max numbers h0a
+      (acc0ThirdH1 j-max h0a h0b) (acc0ThirdH2 j-max h0b)))
