@@ -130,8 +130,8 @@ module _ (K : ℕ) (x : Float) (X : D) (c : ℕ) (o : Off (K * unit) (K ⊙ val 
         → Below ((q * 2 ^ 53) ⊙ X) ((q * 2 ^ 53) ⊙ (K ⊙ val l) ⊞ signed false ((2 ^ 53 + q * C) * (K * unit)))
     not-over w =
         hardly-above X (K ⊙ val l) (w .0)
-        (moved (K ⊙ val x) X (K ⊙ val l) (K * (M + w .0)) (o .err) (o .near) (scaled K (val x) (val l) (M + w .0) (w .1)))
-        (w .2)
+        (moved (K ⊙ val x) X (K ⊙ val l) (K * (M + w .0)) (o .err) (o .near)
+        (scaled K (val x) (val l) (M + w .0) (w .1))) (w .2)
       where
         moved : (x X l : D) (M e : ℕ) → Near x X e → Below x (l ⊞ signed false M) → Below X (l ⊞ signed false (e + M))
         moved x X l M e n h = omega arith
@@ -141,8 +141,8 @@ module _ (K : ℕ) (x : Float) (X : D) (c : ℕ) (o : Off (K * unit) (K ⊙ val 
         → Below ((q * 2 ^ 53) ⊙ (K ⊙ val l)) ((q * 2 ^ 53) ⊙ X ⊞ signed false ((2 ^ 53 + q * C) * (K * unit)))
     not-under w =
         hardly-above (K ⊙ val l) X (w .0)
-        (moved (K ⊙ val x) X (K ⊙ val l) (K * (M + w .0)) (o .err) (o .near) (scaled K (val l) (val x) (M + w .0) (w .1)))
-        (w .2)
+        (moved (K ⊙ val x) X (K ⊙ val l) (K * (M + w .0)) (o .err) (o .near)
+        (scaled K (val l) (val x) (M + w .0) (w .1))) (w .2)
       where
         moved : (x X l : D) (M e : ℕ) → Near x X e → Below l (x ⊞ signed false M) → Below l (X ⊞ signed false (e + M))
         moved x X l M e n h = omega arith

@@ -1,4 +1,4 @@
-// The quartic of roots.rs, x^4 + a x^3 + b x^2 + c x + d: its roots that are not negative. Their set is in positive_set.
+// The quartic of roots.rs, x^4 + a x^3 + b x^2 + c x + d: its roots that are not negative. The set is in positive_set.
 // Its cube root and the roots of its resolvent are worked out elsewhere and handed in as a `RootAnswer`.
 use float::abs;
 use float::near;

@@ -89,7 +89,8 @@ module _ {m : Move} (n : Numbers m) where
       known-cond (acc0Acc1VelUdduApplies s a-max a-min j-max)
       (λ z. by-j-max
       (replacing (unfold acc0Acc1VelUdduTimes acc0Acc1VelUdduT1 in search (add-fits, sub-fits, div-fits))
-      (λ t. acc0-acc1-vel-uddu (m .tf) (m .p0) (m .v0) (m .a0) (m .pf) (m .vf) (m .af) a-max a-min j-max numbers h1 t1)))
+      (λ t. acc0-acc1-vel-uddu (m .tf) (m .p0) (m .v0) (m .a0) (m .pf) (m .vf) (m .af) a-max a-min j-max numbers
+      h1 t1)))
       (λ z. none-known)
 
   pub acc0-acc1-vel-udud-known : Known m (acc0Acc1VelUdud s l)
@@ -100,7 +101,8 @@ module _ {m : Move} (n : Numbers m) where
       (λ z. by-j-max
       (replacing
       (unfold acc0Acc1VelUdudTimes acc0Acc1VelUdudT1 acc0Acc1VelUdudT3 in search (add-fits, sub-fits, div-fits))
-      (λ t. acc0-acc1-vel-udud (m .tf) (m .p0) (m .v0) (m .a0) (m .pf) (m .vf) (m .af) a-max a-min j-max numbers t1 t3)))
+      (λ t. acc0-acc1-vel-udud (m .tf) (m .p0) (m .v0) (m .a0) (m .pf) (m .vf) (m .af) a-max a-min j-max numbers
+      t1 t3)))
       (λ z. none-known)
 
   -- ---- `time_acc1_vel` and `time_acc0_vel`, whose trials are made inside a window alone
