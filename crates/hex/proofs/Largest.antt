@@ -1,6 +1,6 @@
 -- Digits by the largest of two sums: a character less 48 and less 65, round 256. Assumes nothing.
 use mathlib.Core.Path.{_≡_, refl, sym, subst}
-use mathlib.Core.Bool.{Bool, true, false, cond, _&&_}
+use mathlib.Core.Bool.{Bool, true, false, cond, _&&_, and-false}
 use Prim.Native.Nat.{ℕ, zero, suc, _+_, _%_, _≤_, _<_}
 use native.Mathlib.Omega.{arith}
 use lib.Dec.{leb, ltb}
@@ -46,10 +46,6 @@ only-digits c h = agreed (tests c) (isDigit c) (every-at 0x100 (λ c. agree (tes
 larger-le : (m x b : ℕ) → leb (cond (ltb m x) x m) b ≡ leb m b && leb x b
 larger-le m x b = by (ltb m x) refl
   where
-    and-false : (a : Bool) → a && false ≡ false
-    and-false true = refl
-    and-false false = refl
-
     upper : m < x → (t : Bool) → leb x b ≡ t → leb x b ≡ leb m b && leb x b
     upper l true e = let g : m ≤ b = omega (arith, leb-true x b e) in rw (le-leb m b g)
     upper l false e = rw e (sym (and-false (leb m b)))

@@ -120,6 +120,13 @@ all-paired line bytes i h =
         some : (n : ℕ) → suc n ≡ 0 → ⊥
         some n e = omega arith
 
+-- the invariant of both loops: what is still to be stored from here is the whole from the start; and what is left
+-- where none is to be stored
+abbrev pub Paired : List ℕ → List ℕ → List ℕ → ℕ → Type 0
+Paired line lent bytes i =
+    (i ≤ length line / 2) × (length bytes ≡ length lent)
+    × (sets bytes i (bytesOf (drop (2 * i) line)) ≡ sets lent 0 (bytesOf line))
+
 -- ---- encoding: the values of the digits
 pub halved : (bytes reply : List ℕ) (i : ℕ) → i < length bytes
     → sets (set (set reply (2 * i) (getD bytes i 0 / 16)) (2 * i + 1) (getD bytes i 0 % 16)) (2 * (i + 1))
@@ -172,6 +179,11 @@ spelling (b ∷ bytes) = ap (λ (x : List ℕ). digitOf (b / 16) ∷ digitOf (b 
 pub sets-fill : (xs lent : List ℕ) → length xs ≤ length lent → sets lent 0 xs ≡ fill xs lent
 sets-fill xs lent h =
     let h₀ : 0 + length xs ≤ length lent = omega arith in sets-eq xs lent 0 h₀ ∙ rw (zero-add (length xs))
+
+pub all-stored : (line lent bytes : List ℕ) (i : ℕ) → Paired line lent bytes i → length line / 2 ≤ i
+    → length line / 2 ≤ length lent → bytes ≡ fill (bytesOf line) lent
+all-stored line lent bytes i p h g =
+    all-paired line bytes i h ∙ p .2 ∙ sets-fill (bytesOf line) lent (rw (length-bytes line) g)
 
 -- ---- the ways out
 pub none-encoded : (bytes lent : List ℕ) → length lent / 2 < length bytes

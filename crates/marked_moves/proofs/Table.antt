@@ -6,7 +6,7 @@ use lib.Ieee.{ofBits, toBits, lt, le, eq, neg, add, sub, mul, div}
 use Rattle.float.specs.Helpers.{absOf}
 use Rattle.util.specs.Integrate.{integrateOf}
 use Rattle.sqrt.specs.Sqrt.{sqrtOf}
-use Rattle.roots.specs.Set.{holds, insertOf, insertAllOf, intoOf, sortedOf}
+use Rattle.positive_set.specs.Set.{holds, insertOf, insertAllOf, intoOf, sortedOf}
 use Rattle.roots.specs.Quartic.{needOf, factorsOf, quadraticOf, withoutCdOf, withCbrtOf, resolvedOf, offeredOf, rootsOf}
 use Rattle.labels.specs.Tests.{testsOf}
 use Rattle.labels.specs.Jerks.{jerksOf}

@@ -9,7 +9,7 @@ use lib.Ieee.{Float, nan, binary64, ofBits, toBits, neg}
 use Rattle.float.specs.Ops.{#0, #1, #2, #3, #4, #6, #8, #9, #1e12}
 use Rattle.sqrt.specs.Sqrt.{sqrtOf}
 use Rattle.roots.specs.declared.RootAnswer.the-variants.{CubeRoot}
-use Rattle.roots.specs.Set.{sortedOf}
+use Rattle.positive_set.specs.Set.{sortedOf}
 use Rattle.roots.specs.Quartic.{rootsOf}
 use Rattle.hex.specs.Hex.{bytesOf, hexOf}
 use Rattle.line_kinds.specs.Kinds.{replyMost}

@@ -12,11 +12,11 @@ use lib.Seq.{drop-cons, drop-length, getD-take, length-take-le}
 use lib.Ieee.{Float, nan}
 use Rattle.profile.specs.declared.Profile.{Profile}
 use Rattle.profile.specs.declared.Checked.{Checked}
-use Rattle.roots.specs.declared.PositiveSet.{PositiveSet}
+use Rattle.positive_set.specs.declared.PositiveSet.{PositiveSet}
 use Rattle.roots.specs.declared.RootAnswer.{RootAnswer}
-use Rattle.roots.specs.Set.{heldOf, placesOf, sortedOf}
+use Rattle.positive_set.specs.Set.{heldOf, placesOf, sortedOf}
 use Rattle.roots.specs.Quartic.{polynomRootsOf}
-use Rattle.roots.proofs.Sets.{held-places, sorted-length}
+use Rattle.positive_set.proofs.Sets.{held-places, sorted-length}
 use Rattle.roots.proofs.Laws.{roots-length}
 use Rattle.step2_solver.specs.declared.Limits.{Limits}
 use Rattle.step2_solver.specs.declared.Trial.{Trial}

@@ -7,7 +7,7 @@ use Rattle.profile.specs.declared.Profile.{Profile}
 use Rattle.profile.specs.declared.Checked.{Checked}
 use Rattle.roots.specs.declared.RootAnswer.{RootAnswer}
 use Rattle.roots.specs.declared.RootAnswer.the-variants.{CubeRoot}
-use Rattle.roots.specs.Set.{sortedOf}
+use Rattle.positive_set.specs.Set.{sortedOf}
 use Rattle.roots.specs.Quartic.{polynomRootsOf}
 use Rattle.step2_solver.specs.declared.PositionThirdOrderStep2.{PositionThirdOrderStep2}
 use Rattle.step2_solver.specs.declared.Limits.{Limits}

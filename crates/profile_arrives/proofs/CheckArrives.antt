@@ -43,8 +43,8 @@ chosen true true w x z h = inr (tt, tt, h)
 chosen true false w x z h = inl h
 chosen false b w x z h = inl h
 
-in-time : (s : D) (e m : ℕ) → Same s (signed false e) → Below s (signed false m) → e ≤ m
-in-time s e m h k = omega arith
+pub at-most : (s : D) (e m : ℕ) → Same s (signed false e) → Below s (signed false m) → e ≤ m
+at-most s e m h k = omega arith
 
 module _ {signs : ControlSigns} {limits : ReachedLimits} {jf v-max v-min a-max a-min : Float} {q q' : Profile}
     (y : Yes signs limits jf v-max v-min a-max a-min q q') (h : Held q) (fj : T (fits binary64 jf)) where
@@ -74,7 +74,7 @@ module _ {signs : ControlSigns} {limits : ReachedLimits} {jf v-max v-min a-max a
         size-a = w .start-a;
         size-v = w .start-v;
         size-p = w .start-p;
-        total = in-time (lasts (time q') 7) (elapsed (time q') 7) (8 * unit) (total-is y h) (w .total);
+        total = at-most (lasts (time q') 7) (elapsed (time q') 7) (8 * unit) (total-is y h) (w .total);
         jerks = w .jerks;
         steps =
             λ (i : ℕ) (l : i < 7).

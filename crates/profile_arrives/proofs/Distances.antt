@@ -115,9 +115,12 @@ module _ (K : ℕ) (x : Float) (X : D) (c : ℕ) (o : Off (K * unit) (K ⊙ val 
 
   module _ (l : Float) (M q C R : ℕ) (m : M * (q * 2 ^ 53) ≤ (2 ^ 53 + 1) * unit) (z : T (leb 1 q))
       (k : c + (R + 1) + 1 ≤ C) where
-    reaches : (e : ℕ) → e * 2 ^ 53 ≤ (R + 1) * unit
-        → (o .err + K * (M + e)) * (q * 2 ^ 53) ≤ (2 ^ 53 + q * C) * (K * unit)
-    reaches e h = together K unit (2 ^ 53) M q c (R + 1) C e (o .err) (leb→le 1 q z) m h (o .bound) k
+    -- a is above b by the error, M and a small e at most
+    hardly-above : (a b : D) (e : ℕ) → Below a (b ⊞ signed false (o .err + K * (M + e))) → e * 2 ^ 53 ≤ (R + 1) * unit
+        → Below ((q * 2 ^ 53) ⊙ a) ((q * 2 ^ 53) ⊙ b ⊞ signed false ((2 ^ 53 + q * C) * (K * unit)))
+    hardly-above a b e f h =
+        hardly (q * 2 ^ 53) a b (o .err + K * (M + e)) ((2 ^ 53 + q * C) * (K * unit)) f
+        (together K unit (2 ^ 53) M q c (R + 1) C e (o .err) (leb→le 1 q z) m h (o .bound) k)
 
     scaled : (K : ℕ) (x y : D) (M : ℕ) → Below x (y ⊞ signed false M) → Below (K ⊙ x) (K ⊙ y ⊞ signed false (K * M))
     scaled K x y M h = omega (arith, mul-le-mul-left K h)
@@ -126,10 +129,9 @@ module _ (K : ℕ) (x : Float) (X : D) (c : ℕ) (o : Off (K * unit) (K ⊙ val 
     pub not-over : (e : ℕ) × Below (val x) (val l ⊞ signed false (M + e)) × (e * 2 ^ 53 ≤ (R + 1) * unit)
         → Below ((q * 2 ^ 53) ⊙ X) ((q * 2 ^ 53) ⊙ (K ⊙ val l) ⊞ signed false ((2 ^ 53 + q * C) * (K * unit)))
     not-over w =
-        hardly (q * 2 ^ 53) X (K ⊙ val l) (o .err + K * (M + w .0)) ((2 ^ 53 + q * C) * (K * unit))
+        hardly-above X (K ⊙ val l) (w .0)
         (moved (K ⊙ val x) X (K ⊙ val l) (K * (M + w .0)) (o .err) (o .near)
-        (scaled K (val x) (val l) (M + w .0) (w .1)))
-        (reaches (w .0) (w .2))
+        (scaled K (val x) (val l) (M + w .0) (w .1))) (w .2)
       where
         moved : (x X l : D) (M e : ℕ) → Near x X e → Below x (l ⊞ signed false M) → Below X (l ⊞ signed false (e + M))
         moved x X l M e n h = omega arith
@@ -138,10 +140,9 @@ module _ (K : ℕ) (x : Float) (X : D) (c : ℕ) (o : Off (K * unit) (K ⊙ val 
     pub not-under : (e : ℕ) × Below (val l) (val x ⊞ signed false (M + e)) × (e * 2 ^ 53 ≤ (R + 1) * unit)
         → Below ((q * 2 ^ 53) ⊙ (K ⊙ val l)) ((q * 2 ^ 53) ⊙ X ⊞ signed false ((2 ^ 53 + q * C) * (K * unit)))
     not-under w =
-        hardly (q * 2 ^ 53) (K ⊙ val l) X (o .err + K * (M + w .0)) ((2 ^ 53 + q * C) * (K * unit))
+        hardly-above (K ⊙ val l) X (w .0)
         (moved (K ⊙ val x) X (K ⊙ val l) (K * (M + w .0)) (o .err) (o .near)
-        (scaled K (val l) (val x) (M + w .0) (w .1)))
-        (reaches (w .0) (w .2))
+        (scaled K (val l) (val x) (M + w .0) (w .1))) (w .2)
       where
         moved : (x X l : D) (M e : ℕ) → Near x X e → Below l (x ⊞ signed false M) → Below l (X ⊞ signed false (e + M))
         moved x X l M e n h = omega arith

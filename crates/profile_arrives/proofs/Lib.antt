@@ -5,4 +5,5 @@ pub mod Facts
 pub mod Distances
 pub mod Nodes
 pub mod CheckArrives
+pub mod Premises
 pub mod Worked

@@ -4,7 +4,7 @@
 use mathlib.Core.Path.{_≡_, refl}
 use mathlib.Core.Bool.{true, false}
 use mathlib.Core.List.{List, [], _∷_}
-use Prim.Native.Nat.{ℕ, _*_}
+use Prim.Native.Nat.{ℕ}
 use lib.Dec.{T, lit≤}
 use lib.Ieee.Bits.{ofBits-fits}
 use lib.Ieee.{Float, binary64, ofBits, neg, add, sub, mul, div, lt, le, fits}
@@ -24,12 +24,12 @@ use Rattle.phases.specs.Phase.{replacedOf, zeroInsideOf, nodeOf, phaseOf}
 use Rattle.labels.specs.Labels.{labels}
 use Rattle.profile.specs.Parts.{profileOf}
 use Rattle.profile.specs.Check.{arrivedOf, keptOf, checkOf}
-use Rattle.rounding.specs.Exact.{Size}
 use Rattle.rounding.specs.Value.{unit, mag, sign, val, Number}
 use Rattle.rounding.specs.Motion.{motion, lasts}
-use Rattle.profile_arrives.specs.Reply.{time, jerk, Held, Within, Residual}
+use Rattle.profile_arrives.specs.Reply.{time, Held, Within, Residual}
 use Rattle.profile_arrives.specs.Arrives.{Arrives, demanded}
 use Rattle.profile_arrives.proofs.Steps.{by-seven}
+use Rattle.profile_arrives.proofs.Premises.{sized, within}
 use Rattle.profile_arrives.proofs.CheckArrives.{reply, check-arrives}
 
 abbrev zeros : List Float
@@ -70,18 +70,8 @@ unfolding checkOf sumsOf sumStep run refusedOf testsOf jerksOf phaseOf nodeOf re
     arrivedOf keptOf absOf ofBits neg add sub mul div lt le fits unit mag sign val motion lasts
 met = (
   refl,
-  record {
-    start-p = record { over = lit≤ tt; under = lit≤ tt };
-    start-v = record { over = lit≤ tt; under = lit≤ tt };
-    start-a = record { over = lit≤ tt; under = lit≤ tt };
-    total = lit≤ tt;
-    jerks =
-        by-seven (λ (i : ℕ). Size (val (jerk left i)) (64 * unit)) (record { over = lit≤ tt; under = lit≤ tt })
-        (record { over = lit≤ tt; under = lit≤ tt }) (record { over = lit≤ tt; under = lit≤ tt })
-        (record { over = lit≤ tt; under = lit≤ tt })
-        (record { over = lit≤ tt; under = lit≤ tt }) (record { over = lit≤ tt; under = lit≤ tt })
-        (record { over = lit≤ tt; under = lit≤ tt });
-  },
+  within (sized tt tt) (sized tt tt) (sized tt tt) (lit≤ tt) (sized tt tt) (sized tt tt) (sized tt tt) (sized tt tt)
+      (sized tt tt) (sized tt tt) (sized tt tt),
   λ h. record { held = tt; err = 0; near = record { over = lit≤ tt; under = lit≤ tt }; bound = lit≤ tt },
   record { held = tt; finite = tt },
   record { held = tt; finite = tt },

@@ -17,6 +17,8 @@ use denote.Plain.{bool-tells, bool-makes, bool-lawful}
 use denote.Floats.{float-tells, float-makes, float-lawful}
 use denote.Builtin.{bool, f64}
 use denote.Signature.{Slot, plain}
+use denote.Enum.Enum.{Few, Plainss}
+use denote.Enum.Declared.{Declared, variants, shape, row}
 use denote.Enum.Laws as EL
 use denote.Triple.End.{Kepts}
 use denote.Triple.Walked.{Stays, stay-none, AllGo, goes-none}
@@ -33,23 +35,23 @@ pub record Plain (R : RattleType) : Type 2 where
   pub lawful : (M : Type 1) (𝓤 : URA M) (H : Heap 𝓤) (A : Atoms 𝓤) → Given 𝓤 H A → Lawful 𝓤 H A R
   pub silent : (x : R .Denot) (w : Last (R .exit yes) x) → left (R .exit yes) x w ≡ ftrue
 
+-- an enum that owns only facts
+abbrev enum : (T : Declared) → EL.Laws T → Plainss (variants T) → Few (shape T)
+    → ((x : T .D) (w : Last (row T .exit yes) x) → left (row T .exit yes) x w ≡ ftrue) → Plain (row T)
+enum T laws plain few silent =
+    record {
+      val = EL.val T laws;
+      tells = EL.tells T laws;
+      makes = λ M 𝓤 H A W. EL.makes T plain 𝓤 H A;
+      lawful = λ M 𝓤 H A W. EL.lawful T laws 𝓤 H A W few;
+      silent = silent;
+    }
+
 abbrev pub signs : Plain S.the-row
-signs = record {
-  val = EL.val S.the-type S′.the-laws;
-  tells = EL.tells S.the-type S′.the-laws;
-  makes = λ M 𝓤 H A W. EL.makes S.the-type S′.the-plain 𝓤 H A;
-  lawful = λ M 𝓤 H A W. EL.lawful S.the-type S′.the-laws 𝓤 H A W tt;
-  silent = λ x w. refl;
-}
+signs = enum S.the-type S′.the-laws S′.the-plain tt (λ x w. refl)
 
 abbrev pub limits : Plain L.the-row
-limits = record {
-  val = EL.val L.the-type L′.the-laws;
-  tells = EL.tells L.the-type L′.the-laws;
-  makes = λ M 𝓤 H A W. EL.makes L.the-type L′.the-plain 𝓤 H A;
-  lawful = λ M 𝓤 H A W. EL.lawful L.the-type L′.the-laws 𝓤 H A W tt;
-  silent = λ x w. refl;
-}
+limits = enum L.the-type L′.the-laws L′.the-plain tt (λ x w. refl)
 
 abbrev pub truth : Plain bool
 truth =
@@ -57,8 +59,7 @@ truth =
       val = vbool;
       tells = bool-tells;
       makes = λ M 𝓤 H A W. bool-makes 𝓤 H A W;
-      lawful = λ M 𝓤 H A W. bool-lawful
-          𝓤 H A W;
+      lawful = λ M 𝓤 H A W. bool-lawful 𝓤 H A W;
       silent = λ x w. refl;
     }
 

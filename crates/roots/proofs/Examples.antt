@@ -1,16 +1,16 @@
--- Assumes nothing. Quartics and insertions worked through by antt:
--- document 01's -3 2 0 0, a cube root that suits and an answer that does not, and -0.
+-- Quartics worked through by antt: document 01's -3 2 0 0, a cube root that suits and an answer that does not.
+-- Assumes nothing.
 use Prim.Native.Nat.{ℕ}
 use mathlib.Core.Path.{_≡_, refl}
 use mathlib.Core.List.{[], _∷_}
-use lib.Ieee.{nan, neg, ofBits, lt, le, eq, add, sub, mul, div}
+use lib.Ieee.{neg, ofBits, lt, le, eq, add, sub, mul, div}
 use Rattle.float.specs.Ops.{#0, #1, #2, #3, #8}
 use Rattle.float.specs.Helpers.{absOf}
 use Rattle.sqrt.specs.Sqrt.{sqrtOf}
 use Rattle.roots.specs.declared.Three.{Three}
 use Rattle.roots.specs.declared.RootAnswer.{RootAnswer}
 use Rattle.roots.specs.declared.RootAnswer.the-variants.{CubeRoot, Resolved}
-use Rattle.roots.specs.Set.{insertOf, sortedOf}
+use Rattle.positive_set.specs.Set.{sortedOf}
 use Rattle.roots.specs.Quartic.{needOf, needNumber, rootsOf}
 
 -- x⁴ - 3 x³ + 2 x² needs nothing, and whatever is handed in, it inserts 0, 1 and 2, in that order
@@ -38,16 +38,3 @@ zero-two = refl
 pub unsuited : (count : ℕ) (x : Three) → rootsOf #0 #0 (neg #8) #0 (Resolved count x) ≡ []
 unfolding rootsOf absOf neg ofBits lt
 unsuited count x = refl
-
--- -0 joins an empty set, and no set that holds 0; NaN joins none
-pub minus-zero-joins : insertOf [] (neg #0) ≡ neg #0 ∷ []
-unfolding insertOf neg ofBits le
-minus-zero-joins = refl
-
-pub minus-zero-held : insertOf (#0 ∷ []) (neg #0) ≡ #0 ∷ []
-unfolding insertOf neg ofBits le eq
-minus-zero-held = refl
-
-pub nan-stays-out : insertOf [] nan ≡ []
-unfolding insertOf ofBits le
-nan-stays-out = refl

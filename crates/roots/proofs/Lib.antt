@@ -1,5 +1,3 @@
--- Laws of the set of roots and of the branches of the quartic; worked examples; what holds of all roots.
-pub mod Sets
-pub mod Branches
+-- Worked quartics; what holds of all roots.
 pub mod Examples
 pub mod Laws

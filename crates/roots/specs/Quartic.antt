@@ -16,7 +16,7 @@ use Rattle.roots.specs.declared.Need.{Need}
 use Rattle.roots.specs.declared.Need.the-variants.{Nothing, Cube, Resolvent}
 use Rattle.roots.specs.declared.RootAnswer.{RootAnswer}
 use Rattle.roots.specs.declared.RootAnswer.the-variants.{CubeRoot, Resolved}
-use Rattle.roots.specs.Set.{insertAllOf}
+use Rattle.positive_set.specs.Set.{insertAllOf}
 
 -- below EPS in size
 abbrev pub smallOf : Float → Bool

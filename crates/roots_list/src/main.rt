@@ -5,7 +5,7 @@
 use digits::byte_to_digits;
 use digits::from_digits;
 use digits::to_digits;
-use roots::PositiveSet;
+use positive_set::PositiveSet;
 use roots::RootAnswer;
 use roots::Three;
 use roots::need_number;

@@ -6,7 +6,7 @@ use Prim.Native.Nat.{ℕ, suc, _+_, _-_, _*_, _/_, _^_, _≤_, _<_, zero-le, com
 use Prim.Native.Nat.{Ordering·gt}
 use native.Mathlib.Nat.{le-trans, le-of-eq, le-of-lt, lt-of-lt-of-le, lt-of-le-of-lt, lt-of-not-le, not-le-of-lt}
 use native.Mathlib.Nat.{lt-suc-self, mul-one, mul-assoc, mul-left-comm, pow-succ', mul-le-mul-left, mul-le-mul-right}
-use native.Mathlib.Nat.{add-comm, eq-of-mul-eq-mul-right, div-mul-le-self, div-lt-iff-lt-mul, le-div-iff-mul-le}
+use native.Mathlib.Nat.{add-comm, eq-of-mul-eq-mul-right, div-mul-le-self, div-lt-iff-lt-mul}
 use native.Mathlib.Omega.{arith}
 use native.Mathlib.Decide.{decLe}
 use mathlib.Core.Bool.{not}
@@ -14,14 +14,14 @@ use lib.Dec.{T, isLe, isEq, nleb→lt, leb→le, eqb→eq}
 use lib.Arith.{lt-of-le-ne}
 use lib.Pow.{pow-add, pow-pos, pow-mono, shl-lt}
 use lib.Ieee.{size, nearest}
-use lib.Ieee.Digits.{size-reaches, back}
+use lib.Ieee.Digits.{back}
 use lib.Ieee.Fits.{kept-lt, nearest-le}
 use lib.Ieee.Nearest.{nearest-ge}
 use Rattle.sqrt.specs.Sqrt.{root}
 use Rattle.sqrt.proofs.Squares.{square-le, square-lt, square-product}
 use Rattle.sqrt.proofs.Root.{root-under, root-over}
 use Rattle.sqrt.proofs.Rounded.{middle, rounded}
-use Rattle.sqrt.proofs.Units.{InUnits}
+use Rattle.sqrt.proofs.Units.{InUnits, kept-full}
 
 -- ---- √w lies from q * 2 ^ k up to (q + 1) * 2 ^ k, and q has 53 digits where digits are dropped
 pub record Bracket (w q k : ℕ) : Type 0 where
@@ -38,13 +38,8 @@ bracket w =
       under = le-trans (square-le (div-mul-le-self r (2 ^ k))) (root-under w);
       over = lt-of-lt-of-le (root-over w) (square-le (div-lt-iff-lt-mul (pow-pos k) .0 (lt-suc-self (r / 2 ^ k))));
       few = kept-lt 53 r;
-      full =
-          λ h. le-div-iff-mul-le (pow-pos k) .1
-          (le-trans (le-of-eq (sym (pow-add 2 52 k))) (size-reaches r (52 + k) (within (size r) h)));
+      full = kept-full r;
     }
-  where
-    within : (z : ℕ) → 0 < z - 53 → 52 + (z - 53) < z
-    within z h = omega arith
 
 -- ---- no f64 lies between the two
 -- it is a multiple of 2 ^ k, or it has so few digits that it is below both

@@ -88,6 +88,16 @@ pub record Kept (n q k : ℕ) : Type 0 where
   pub exact : q * 2 ^ k ≡ n
   pub low : k ≤ 2045
 
+-- where digits are dropped, 53 are left
+pub kept-full : (n : ℕ) → 0 < size n - 53 → 2 ^ 52 ≤ n / 2 ^ (size n - 53)
+kept-full n h =
+    let k = size n - 53 in
+    le-div-iff-mul-le (pow-pos k) .1
+    (le-trans (le-of-eq (sym (pow-add 2 52 k))) (size-reaches n (52 + k) (within (size n) h)))
+  where
+    within : (z : ℕ) → 0 < z - 53 → 52 + (z - 53) < z
+    within z h = omega arith
+
 pub kept : (n : ℕ) → InUnits n → Kept n (n / 2 ^ (size n - 53)) (size n - 53)
 kept n u =
     let k = size n - 53 in
@@ -101,9 +111,7 @@ kept n u =
     ∙ sym (u .exact) in
     record {
       few = kept-lt 53 n;
-      full =
-          λ h. le-div-iff-mul-le (pow-pos k) .1
-          (le-trans (le-of-eq (sym (pow-add 2 52 k))) (size-reaches n (52 + k) (within (size n) h)));
+      full = kept-full n;
       exact = ap (λ (x : ℕ). x / 2 ^ k * 2 ^ k) (sym whole)
           ∙ ap (λ (x : ℕ). x * 2 ^ k) (mul-div-cancel (u .digits * 2 ^ (j - k)) (pow-pos k)) ∙ whole;
       low = spare (size n) 2045 (size-le n 2098 (u .small));
@@ -111,9 +119,6 @@ kept n u =
   where
     spare : (z j : ℕ) → z ≤ 53 + j → z - 53 ≤ j
     spare z j h = omega arith
-
-    within : (z : ℕ) → 0 < z - 53 → 52 + (z - 53) < z
-    within z h = omega arith
 
 -- ---- the bits
 toBits-is : (m : ℕ) (e : ℤ) (n : ℕ) → m * up e * 2 ^ 1074 / down e ≡ n

@@ -1,7 +1,7 @@
 -- From the yes of an attempt to the exact motion: it arrives, in the duration, within the limits. Assumes nothing.
 -- Everything here is about any attempt whose times are known well enough (`Made`): the shapes' formulas are not named.
 use mathlib.Core.Path.{_≡_, refl, sym, ap, _∙_, subst}
-use mathlib.Core.Bool.{true, false}
+use mathlib.Core.Bool.{true}
 use mathlib.Core.List.{List}
 use Prim.Native.Nat.{ℕ, _*_, _^_, _≤_, _<_}
 use native.Mathlib.Nat.{mul-comm, le-of-eq, le-trans, mul-le-mul-left, mul-le-mul-right, le-of-mul-le-mul-right}
@@ -18,7 +18,7 @@ use Rattle.labels.specs.declared.jerks.Sign.the-variants.{Plus, Zero, Minus}
 use Rattle.profile.specs.declared.Profile.{Profile}
 use Rattle.profile.specs.declared.Checked.{Checked}
 use Rattle.labels.specs.Jerks.{patternOf, jerkOf, jerksOf}
-use Rattle.rounding.specs.Exact.{D, signed, Below, Same, _⊙_}
+use Rattle.rounding.specs.Exact.{_⊙_}
 use Rattle.rounding.specs.Value.{unit, val}
 use Rattle.rounding.specs.Motion.{motion, state, lasts, elapsed}
 use Rattle.rounding.specs.Step.{Node, Replaced}
@@ -29,7 +29,7 @@ use Rattle.profile_arrives.specs.Arrives.{Fraction, Arrives, proved}
 use Rattle.profile_arrives.proofs.Yes.{Yes, check-yes}
 use Rattle.profile_arrives.proofs.Facts.{jerk-is, yes-finite, time-above, total-is}
 use Rattle.profile_arrives.proofs.Distances.{Narrowed, wider}
-use Rattle.profile_arrives.proofs.CheckArrives.{check-recorded, check-arrives-closely}
+use Rattle.profile_arrives.proofs.CheckArrives.{at-most, check-recorded, check-arrives-closely}
 use Rattle.step2_solver.specs.declared.Move.{Move}
 use Rattle.step2_times.specs.Facts.{Accepted, roundings, Lasts, Jerks, residual}
 use Rattle.step2_attempt.specs.Attempt.{timesOf}
@@ -44,9 +44,6 @@ begin : (signs : ControlSigns)
     × (getD (patternOf signs) 2 Zero ≡ Minus)
 begin UDDU = (refl, refl, refl)
 begin UDUD = (refl, refl, refl)
-
-at-most : (s : D) (e k : ℕ) → Same s (signed false e) → Below s (signed false k) → e ≤ k
-at-most s e k h l = omega arith
 
 -- an error in units, as a distance
 close : {t : ℕ → Float} {tf : Float} (l : Lasts t tf) (f : Fraction) → l .err * f .d ≤ f .m * unit

@@ -2,7 +2,6 @@
 pub mod Made
 pub mod Sound
 pub mod Arrives
-pub mod Attempts
 pub mod Trials
 pub mod Shapes
 pub mod Lines

@@ -13,9 +13,10 @@ use Rattle.profile.specs.declared.Profile.{Profile}
 use Rattle.profile.specs.declared.Checked.{Checked}
 use Rattle.profile_arrives.specs.Reply.{Within}
 use Rattle.roots.specs.declared.RootAnswer.{RootAnswer}
-use Rattle.roots.specs.Set.{sortedOf}
+use Rattle.positive_set.specs.Set.{sortedOf}
 use Rattle.roots.specs.Quartic.{polynomRootsOf}
-use Rattle.roots.proofs.Laws.{Every, every-append, Fits64, AnswerFits, tried-fit}
+use Rattle.positive_set.proofs.Laws.{Every, every-append}
+use Rattle.roots.proofs.Laws.{Fits64, AnswerFits, tried-fit}
 use Rattle.step2_solver.specs.declared.Move.{Move}
 use Rattle.step2_solver.specs.declared.Shape.{Shape}
 use Rattle.step2_solver.specs.declared.Shape.the-variants.{Acc0Acc1Vel, Acc1Vel, Acc0Vel, Acc0Acc1, Acc0}

@@ -10,7 +10,7 @@ use Rattle.labels.specs.declared.ControlSigns.{ControlSigns}
 use Rattle.profile.specs.declared.Profile.{Profile}
 use Rattle.profile.specs.declared.Checked.{Checked}
 use Rattle.profile_arrives.proofs.Yes.{check-carries}
-use Rattle.roots.proofs.Laws.{Every}
+use Rattle.positive_set.proofs.Laws.{Every}
 use Rattle.step2_solver.specs.declared.Move.{Move}
 use Rattle.step2_solver.specs.declared.Times.{Times}
 use Rattle.step2_solver.specs.declared.Trial.{Trial}

@@ -2,7 +2,6 @@
 -- limits ±2 and ±1 and the jerk 1. The shape says yes, and the theorem applies. Assumes nothing.
 use mathlib.Core.Path.{_≡_, refl}
 use mathlib.Core.Bool.{true}
-use Prim.Native.Nat.{ℕ, _*_}
 use lib.Dec.{lit≤}
 use lib.Ieee.{Float, binary64, ofBits, neg, add, sub, mul, div, lt, le, fits}
 use Rattle.float.specs.Ops.{#0, #1, #2, #8}
@@ -20,11 +19,10 @@ use Rattle.profile.specs.Check.{arrivedOf, keptOf, checkOf}
 use Rattle.profile.specs.Boundary.{boundaryOf}
 use Rattle.roots.specs.declared.RootAnswer.{RootAnswer}
 use Rattle.roots.specs.declared.RootAnswer.the-variants.{CubeRoot}
-use Rattle.rounding.specs.Exact.{Size}
 use Rattle.rounding.specs.Value.{unit, mag, sign, val}
 use Rattle.rounding.specs.Motion.{lasts}
-use Rattle.profile_arrives.specs.Reply.{jerk, Within}
-use Rattle.profile_arrives.proofs.Steps.{by-seven}
+use Rattle.profile_arrives.specs.Reply.{Within}
+use Rattle.profile_arrives.proofs.Premises.{sized, within}
 use Rattle.step2_solver.specs.New.{newOf}
 use Rattle.step2_solver.specs.declared.Move.{Move}
 use Rattle.step2_solver.specs.declared.Shape.the-variants.{Acc0Acc1Vel}
@@ -69,21 +67,8 @@ unfolding triedOf tryOf acc0Acc1VelUddu acc0Acc1VelUdduApplies acc0Acc1VelUdduRa
     mul div lt le fits unit mag sign val lasts
 met = (
   refl,
-  record {
-    start-p = record { over = lit≤ tt; under = lit≤ tt };
-    start-v = record { over = lit≤ tt; under = lit≤ tt };
-    start-a = record { over = lit≤ tt; under = lit≤ tt };
-    total = lit≤ tt;
-    jerks =
-        by-seven (λ (i : ℕ). Size (val (jerk left i)) (64 * unit))
-        (record { over = lit≤ tt; under = lit≤ tt })
-        (record { over = lit≤ tt; under = lit≤ tt })
-        (record { over = lit≤ tt; under = lit≤ tt })
-        (record { over = lit≤ tt; under = lit≤ tt })
-        (record { over = lit≤ tt; under = lit≤ tt })
-        (record { over = lit≤ tt; under = lit≤ tt })
-        (record { over = lit≤ tt; under = lit≤ tt });
-  },
+  within (sized tt tt) (sized tt tt) (sized tt tt) (lit≤ tt) (sized tt tt) (sized tt tt) (sized tt tt) (sized tt tt)
+      (sized tt tt) (sized tt tt) (sized tt tt),
   record {
     of-tf = record { held = tt; finite = tt };
     of-p0 = record { held = tt; finite = tt };

@@ -4,10 +4,6 @@ use Rattle.float.proofs.Cases.{max-is}
 use Rattle.float.proofs.max.Statement.{statement}
 use Rattle.float.proofs.max.Tie as tie
 
-returns : tie.Need-returns
-returns c =
-    let start = c .before .before in rw (c .pick2 .ensures, c .before .pick .ensures)
-    (max-is (start .args .x) (start .args .y))
-
 pub max-spec : {M : Type 1} → statement M
-max-spec = tie.close (tie.spec (λ c κs. tt) (λ c κs. tt) returns)
+max-spec = tie.close (tie.spec (λ c κs. tt) (λ c κs. tt)
+    (λ c. let a = c .before .before .args in rw (c .pick2 .ensures, c .before .pick .ensures) (max-is (a .x) (a .y))))

@@ -4,10 +4,6 @@ use Rattle.float.proofs.Cases.{min-is}
 use Rattle.float.proofs.min.Statement.{statement}
 use Rattle.float.proofs.min.Tie as tie
 
-returns : tie.Need-returns
-returns c =
-    let start = c .before .before in rw (c .pick2 .ensures, c .before .pick .ensures)
-    (min-is (start .args .x) (start .args .y))
-
 pub min-spec : {M : Type 1} → statement M
-min-spec = tie.close (tie.spec (λ c κs. tt) (λ c κs. tt) returns)
+min-spec = tie.close (tie.spec (λ c κs. tt) (λ c κs. tt)
+    (λ c. let a = c .before .before .args in rw (c .pick2 .ensures, c .before .pick .ensures) (min-is (a .x) (a .y))))

@@ -16,16 +16,9 @@ returns c =
 returns-2 : tie.Need-returns-2
 unfolding rootAnswerOf
 returns-2 c =
-    let n2 = c .before in
-    let n1 = n2 .before in
-    let i = n1 .before in
-    let q = i .before .before .args in
-    rw (
-      ne-eqb (getD (q .frame .now) (q .at) 0) 0 (i .if1 .left),
-      c .number-at4 .ensures,
-      n2 .number-at3 .ensures,
-      n1 .number-at2 .ensures,
-    )
+    let n2 = c .before in let n1 = n2 .before in let i = n1 .before in let q = i .before .before .args in
+    rw (ne-eqb (getD (q .frame .now) (q .at) 0) 0 (i .if1 .left))
+    (rw (c .number-at4 .ensures, n2 .number-at3 .ensures, n1 .number-at2 .ensures))
 
 pub root-answer-spec : {M : Type 1} → statement M
 root-answer-spec =

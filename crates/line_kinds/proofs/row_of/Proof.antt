@@ -1,58 +1,20 @@
 -- `row_of` is `rowOf`, arm by arm. Assumes nothing.
-use borrow.Author.Tests.{eq-eqb, ne-eqb}
+use borrow.Author.Tests.{ne-eqb}
 use Rattle.line_kinds.specs.Kinds.{rowOf}
 use Rattle.line_kinds.proofs.row_of.Statement.{statement}
 use Rattle.line_kinds.proofs.row_of.Tie as tie
 
-returns : tie.Need-returns
-unfolding rowOf
-returns c = rw (c .match .keys1)
-
-returns-2 : tie.Need-returns-2
-unfolding rowOf
-returns-2 c = rw (c .match .keys2)
-
-returns-3 : tie.Need-returns-3
-unfolding rowOf
-returns-3 c = rw (c .match .keys3)
-
-returns-4 : tie.Need-returns-4
-unfolding rowOf
-returns-4 c = rw (c .match .keys4)
-
-returns-5 : tie.Need-returns-5
-unfolding rowOf
-returns-5 c = rw (c .match .keys5)
-
-returns-6 : tie.Need-returns-6
-unfolding rowOf
-returns-6 c = rw (c .match .keys6)
-
-returns-7 : tie.Need-returns-7
-unfolding rowOf
-returns-7 c = rw (c .match .keys7)
-
-returns-8 : tie.Need-returns-8
-unfolding rowOf
-returns-8 c = rw (c .match .keys8)
-
 returns-9 : tie.Need-returns-9
 unfolding rowOf
 returns-9 c =
-    let n = c .before .args .kind in
-    let r = c .match .rest in
-    rw (
-      ne-eqb n 0 (r .0 .0 .0 .0 .0 .0 .0 .1),
-      ne-eqb n 1 (r .0 .0 .0 .0 .0 .0 .1),
-      ne-eqb n 2 (r .0 .0 .0 .0 .0 .1),
-      ne-eqb n 3 (r .0 .0 .0 .0 .1),
-      ne-eqb n 4 (r .0 .0 .0 .1),
-      ne-eqb n 5 (r .0 .0 .1),
-      ne-eqb n 6 (r .0 .1),
-      ne-eqb n 7 (r .1),
-    )
+    let n = c .before .args .kind in let r = c .match .rest in let s = r .0 .0 .0 .0 in
+    rw (ne-eqb n 0 (s .0 .0 .0 .1), ne-eqb n 1 (s .0 .0 .1), ne-eqb n 2 (s .0 .1), ne-eqb n 3 (s .1))
+    (rw (ne-eqb n 4 (r .0 .0 .0 .1), ne-eqb n 5 (r .0 .0 .1), ne-eqb n 6 (r .0 .1), ne-eqb n 7 (r .1)))
 
 pub row-of-spec : {M : Type 1} → statement M
+unfolding rowOf
 row-of-spec =
     tie.close
-    (tie.spec returns returns-2 returns-3 returns-4 returns-5 returns-6 returns-7 returns-8 returns-9)
+    (tie.spec (λ c. rw (c .match .keys1)) (λ c. rw (c .match .keys2)) (λ c. rw (c .match .keys3))
+    (λ c. rw (c .match .keys4)) (λ c. rw (c .match .keys5)) (λ c. rw (c .match .keys6)) (λ c. rw (c .match .keys7))
+    (λ c. rw (c .match .keys8)) returns-9)

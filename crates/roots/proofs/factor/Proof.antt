@@ -6,23 +6,15 @@ use Rattle.roots.proofs.factor.Tie as tie
 returns : tie.Need-returns
 unfolding factorsOf
 returns c =
-    rw (
-      ← c .before .before .before .small .ensures,
-      ← c .before .small2 .ensures,
-      c .before .before .if1 .taken,
-      c .if2 .taken,
-    )
+    let d = c .before in
+    rw (← d .before .before .small .ensures, ← d .small2 .ensures, d .before .if1 .taken, c .if2 .taken)
 
 returns-2 : tie.Need-returns-2
 unfolding factorsOf
 returns-2 c =
-    rw (
-      ← c .before .before .before .before .small .ensures,
-      ← c .before .before .small2 .ensures,
-      c .before .before .before .if1 .taken,
-      c .before .if2 .left,
-      c .sqrt .ensures,
-    )
+    let d = c .before .before in
+    rw (← d .before .before .small .ensures, ← d .small2 .ensures, d .before .if1 .taken)
+    (rw (c .before .if2 .left, c .sqrt .ensures))
 
 returns-3 : tie.Need-returns-3
 unfolding factorsOf

@@ -1,9 +1,9 @@
 -- `roots::insert_quadratic` offers `quadraticOf`, branch by branch. Assumes nothing.
 use lib.Ieee.{neg}
 use Rattle.float.specs.Ops.{_⊕_, _⊖_, _⊘_, #2}
-use Rattle.roots.specs.Set.{insertOf, insertAllOf}
+use Rattle.positive_set.specs.Set.{insertOf, insertAllOf}
 use Rattle.roots.specs.Quartic.{quadraticOf}
-use Rattle.roots.proofs.Sets.{inserted, insert-length}
+use Rattle.positive_set.proofs.Sets.{inserted, insert-length}
 use Rattle.roots.proofs.insert_quadratic.Statement.{statement}
 use Rattle.roots.proofs.insert_quadratic.Tie as tie
 
@@ -11,7 +11,7 @@ returns : tie.Need-returns
 unfolding quadraticOf insertAllOf
 returns c l h e =
     let a = c .before .before .before .args in
-    rw (← c .before .before .abs .ensures, c .before .if1 .taken)
+    rw (← c .before .before .near .ensures, c .before .if1 .taken)
     (inserted l (neg (a .p) ⊘ #2) h e (c .insert .ensures))
 
 returns-2 : tie.Need-returns-2
@@ -21,7 +21,7 @@ returns-2 c l h e =
     let s = c .before .before .sqrt .result in
     let x = (neg (a .p) ⊖ s) ⊘ #2 in
     rw (
-      ← c .before .before .before .before .before .abs .ensures,
+      ← c .before .before .before .before .before .near .ensures,
       c .before .before .before .before .if1 .left,
       c .before .before .before .if2 .taken,
       ← c .before .before .sqrt .ensures,
@@ -31,7 +31,7 @@ returns-2 c l h e =
 
 returns-3 : tie.Need-returns-3
 unfolding quadraticOf insertAllOf
-returns-3 c l h e = rw (← c .before .before .abs .ensures, c .before .if1 .left, c .if2 .left) e
+returns-3 c l h e = rw (← c .before .before .near .ensures, c .before .if1 .left, c .if2 .left) e
 
 pub insert-quadratic-spec : {M : Type 1} → statement M
 insert-quadratic-spec =

@@ -1,14 +1,25 @@
 -- `roots::solve_resolved` offers what the two factors do. Assumes nothing.
-use Prim.Native.Nat.{zero-le}
-use mathlib.Core.Path.{sym, ap, _∙_}
-use mathlib.Core.List.{[]}
+use Prim.Native.Nat.{ℕ, zero-le}
+use mathlib.Core.Path.{_≡_, sym, ap, _∙_}
+use mathlib.Core.List.{List, [], _++_}
+use lib.Ieee.{Float}
 use Rattle.float.specs.Ops.{#16ε}
-use Rattle.roots.specs.Set.{placesOf, insertAllOf}
-use Rattle.roots.specs.Quartic.{quadraticOf}
-use Rattle.roots.proofs.Sets.{insertAll-length, insertAll-append}
-use Rattle.roots.proofs.Branches.{by-factors}
+use Rattle.positive_set.specs.Set.{placesOf, insertAllOf}
+use Rattle.roots.specs.declared.Three.{Three}
+use Rattle.roots.specs.declared.Factors.{Factors}
+use Rattle.roots.specs.Quartic.{chosenOf, factorsOf, quadraticOf, resolvedOf}
+use Rattle.positive_set.proofs.Sets.{insertAll-length, insertAll-append}
 use Rattle.roots.proofs.solve_resolved.Statement.{statement}
 use Rattle.roots.proofs.solve_resolved.Tie as tie
+
+-- what two factors offer
+abbrev both : Factors → List Float
+both f = quadraticOf #16ε (f .p1) (f .q1) ++ quadraticOf #16ε (f .p2) (f .q2)
+
+by-factors : (a b c d : Float) (count : ℕ) (x : Three) {y : Float} {f : Factors} → y ≡ chosenOf count x
+    → f ≡ factorsOf a b c d y → both f ≡ resolvedOf a b c d count x
+unfolding resolvedOf
+by-factors a b c d count x e g = ap both (g ∙ ap (factorsOf a b c d) e)
 
 returns : tie.Need-returns
 returns c =

@@ -2,9 +2,9 @@
 use Prim.Native.Nat.{zero-le}
 use mathlib.Core.List.{[]}
 use Rattle.float.specs.Ops.{#0}
-use Rattle.roots.specs.Set.{insertOf, insertAllOf}
+use Rattle.positive_set.specs.Set.{insertOf, insertAllOf}
 use Rattle.roots.specs.Quartic.{withoutCdOf}
-use Rattle.roots.proofs.Sets.{inserted, insert-length}
+use Rattle.positive_set.proofs.Sets.{inserted, insert-length}
 use Rattle.roots.proofs.solve_without_cd.Statement.{statement}
 use Rattle.roots.proofs.solve_without_cd.Tie as tie
 

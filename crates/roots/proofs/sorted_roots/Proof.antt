@@ -1,8 +1,8 @@
 -- `roots::sorted_roots` is `sortedOf` of the roots. Assumes nothing.
 use mathlib.Core.Path.{ap, _∙_}
-use Rattle.roots.specs.Set.{heldOf, placesOf, sortedOf}
+use Rattle.positive_set.specs.Set.{heldOf, placesOf, sortedOf}
 use Rattle.roots.specs.Quartic.{polynomRootsOf}
-use Rattle.roots.proofs.Sets.{held-places}
+use Rattle.positive_set.proofs.Sets.{held-places}
 use Rattle.roots.proofs.Laws.{roots-length}
 use Rattle.roots.proofs.sorted_roots.Statement.{statement}
 use Rattle.roots.proofs.sorted_roots.Tie as tie

@@ -11,24 +11,16 @@ slice-aggregate-copy c =
 
 copy-requires : tie.Need-copy-requires
 copy-requires c κs =
-    let n = c .before .before in
-    let b = n .before in
-    let s = b .before .before .before in
-    kept-fits (s .args .kept .now) (s .args .part .now) (s .args .count) (b .least .result) (n .least2 .result)
-    (b .least .ensures)
+    let n = c .before .before in let b = n .before in let a = b .before .before .before .args in
+    kept-fits (a .kept .now) (a .part .now) (a .count) (b .least .result) (n .least2 .result) (b .least .ensures)
     (n .least2 .ensures)
 
 returns : tie.Need-returns
 returns c =
-    let y = c .before .before in
-    let n = y .before .before .before in
-    let b = n .before in
-    let s = b .before .before .before in
-    keeps (s .args .kept .now) (s .args .part .now) (s .args .count) (b .least .result) (n .least2 .result)
-    (b .least .ensures)
-    (n .least2 .ensures)
-    _
-    (y .copy .ensures)
+    let y = c .before .before in let n = y .before .before .before in let b = n .before in
+    let a = b .before .before .before .args in
+    keeps (a .kept .now) (a .part .now) (a .count) (b .least .result) (n .least2 .result) (b .least .ensures)
+    (n .least2 .ensures) _ (y .copy .ensures)
 
 pub keep-spec : {M : Type 1} → statement M
 keep-spec =
