@@ -18,7 +18,9 @@ use Rattle.labels.specs.declared.Direction.{Direction}
 use Rattle.labels.specs.declared.Direction.the-variants.{UP, DOWN}
 use Rattle.labels.specs.declared.ControlSigns.{ControlSigns}
 use Rattle.labels.specs.declared.ControlSigns.the-variants.{UDDU, UDUD}
+use Rattle.row.specs.Row.{Numbers}
 use Rattle.profile.specs.declared.Checked.{Checked}
+use Rattle.profile.specs.Parts.{numbersOf}
 use Rattle.roots.specs.declared.Need.{Need}
 use Rattle.roots.specs.declared.Need.the-variants.{Nothing, Cube, Resolvent}
 use Rattle.roots.specs.Quartic.{needOf, needNumber, resolventOf}
@@ -87,13 +89,14 @@ need-lt Cube = lit≤ tt
 need-lt Resolvent = lit≤ tt
 
 -- ---- kinds 00 to 05: the head and six rows
-rows : (t s j a v p : List Float) → Bytes (rowsOf t s j a v p)
+rows : (n : Numbers) → Bytes (rowsOf n)
 unfolding rowsOf
-rows t s j a v p =
+rows n =
+    let t = n .t in let s = n .«t_sum» in let j = n .j in let a = n .nodes .a in let v = n .nodes .v in
     let ts = numbersBytes t ++ numbersBytes s in
     let tsj = ts ++ numbersBytes j in
     let tsja = tsj ++ numbersBytes a in
-    and (tsja ++ numbersBytes v) p (and tsja v (and tsj a (and ts j (and (numbersBytes t) s (numbers-are-bytes t)))))
+    and (tsja ++ numbersBytes v) (n .nodes .p) (and tsja v (and tsj a (and ts j (and (numbersBytes t) s (numbers-are-bytes t)))))
   where
     and : (xs : List ℕ) (row : List Float) → Bytes xs → Bytes (xs ++ numbersBytes row)
     and xs row h = bytes-append xs (numbersBytes row) h (numbers-are-bytes row)
@@ -107,7 +110,7 @@ reply-bytes c =
         label-lt (q .limits),
         (
           direction-lt (q .direction),
-          (signs-lt (q .«control_signs»), rows (q .t) (q .«t_sum») (q .j) (q .a) (q .v) (q .p)),
+          (signs-lt (q .«control_signs»), rows (numbersOf q)),
         ),
       ),
     )

@@ -7,6 +7,7 @@ use lib.ListN.{length, length-append}
 use lib.Ieee.{Float}
 use Rattle.profile.specs.declared.Profile.{Profile}
 use Rattle.profile.specs.declared.Checked.{Checked}
+use Rattle.profile.specs.Parts.{numbersOf}
 use Rattle.profile.specs.Boundary.{defaultOf, boundaryOf}
 use Rattle.step2_solver.specs.declared.Shape.{Shape}
 use Rattle.step2_solver.specs.New.{solverOf, limitsOf}
@@ -59,7 +60,7 @@ six : (t s j a v p : List ℕ)
     → length (t ++ s ++ j ++ a ++ v ++ p) ≡ length t + length s + length j + length a + length v + length p
 six t s j a v p = simp length-append
 
-rows-length : (q : Profile) → Lengths q → length (rowsOf (q .t) (q .«t_sum») (q .j) (q .a) (q .v) (q .p)) ≡ 360
+rows-length : (q : Profile) → Lengths q → length (rowsOf (numbersOf q)) ≡ 360
 unfolding rowsOf
 rows-length q h =
     six (numbersBytes (q .t)) (numbersBytes (q .«t_sum»)) (numbersBytes (q .j)) (numbersBytes (q .a))

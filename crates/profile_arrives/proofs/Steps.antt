@@ -10,7 +10,7 @@ use lib.ListN.{length, getD, set, length-set}
 use lib.Seq.{getD-set-same, getD-set-other}
 use lib.Ieee.{Float, nan}
 use Rattle.phases.specs.Run.{Step, run}
-use Rattle.phases.specs.Phase.{Nodes}
+use Rattle.row.specs.Row.{Nodes}
 use Rattle.rounding.specs.Step.{Node}
 
 -- ---- the steps from i on: none is left, or another one

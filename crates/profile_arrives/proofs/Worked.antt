@@ -22,6 +22,7 @@ use Rattle.phases.specs.Times.{sumStep, sumsOf, refusedOf}
 use Rattle.phases.specs.Limit.{bandOf}
 use Rattle.phases.specs.Phase.{replacedOf, zeroInsideOf, nodeOf, phaseOf}
 use Rattle.labels.specs.Labels.{labels}
+use Rattle.row.specs.Row.{withTimes, startOf}
 use Rattle.profile.specs.Parts.{profileOf}
 use Rattle.profile.specs.Check.{arrivedOf, keptOf, checkOf}
 use Rattle.rounding.specs.Value.{unit, mag, sign, val, Number}
@@ -32,16 +33,12 @@ use Rattle.profile_arrives.proofs.Steps.{by-seven}
 use Rattle.profile_arrives.proofs.Premises.{sized, within}
 use Rattle.profile_arrives.proofs.CheckArrives.{reply, check-arrives}
 
-abbrev zeros : List Float
-zeros = #0 ∷ #0 ∷ #0 ∷ #0 ∷ #0 ∷ #0 ∷ #0 ∷ []
-
 abbrev seven : List Float
 seven = #1 ∷ #1 ∷ #1 ∷ #1 ∷ #1 ∷ #1 ∷ #1 ∷ []
 
 abbrev asked : Profile
 asked =
-    profileOf seven zeros zeros (record { a = #0 ∷ zeros; v = #0 ∷ zeros; p = #0 ∷ zeros })
-    (record { pf = #8; vf = #0; af = #0 }) (labels None UP UDDU)
+    profileOf (withTimes seven (startOf #0 #0 #0 #8 #0 #0)) (labels None UP UDDU)
 
 abbrev left : Profile
 left = reply UDDU Acc0Acc1Vel #1 #2 (neg #2) #1 (neg #1) asked

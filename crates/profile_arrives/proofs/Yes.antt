@@ -19,12 +19,13 @@ use Rattle.profile.specs.declared.Profile.{Profile}
 use Rattle.profile.specs.declared.Checked.{Checked}
 use Rattle.labels.specs.Tests.{testsOf}
 use Rattle.labels.specs.Jerks.{jerksOf}
+use Rattle.row.specs.Row.{Nodes, withSums, withJerks, withNodes}
 use Rattle.phases.specs.Run.{Step, run, yes!, no! }
 use Rattle.phases.specs.Times.{sumStep, sumsOf, refusedOf}
 use Rattle.phases.specs.Limit.{directionOf, bandOf}
-use Rattle.phases.specs.Phase.{Nodes, replacedOf, nodeOf, phaseOf}
+use Rattle.phases.specs.Phase.{replacedOf, nodeOf, phaseOf}
 use Rattle.labels.specs.Labels.{labels}
-use Rattle.profile.specs.Parts.{profileOf, nodesOf, goalOf, labelsOf}
+use Rattle.profile.specs.Parts.{profileOf, nodesOf, goalOf, numbersOf, labelsOf}
 use Rattle.profile.specs.Check.{arrivedOf, keptOf, checkOf}
 use Rattle.rounding.specs.Step.{Node, stepOf}
 use Rattle.profile_arrives.specs.Reply.{time, jerk, node, Held}
@@ -138,16 +139,17 @@ module _ (signs : ControlSigns) (limits : ReachedLimits) (jf v-max v-min a-max a
       let j = jerksOf signs (q .t) jf in
       let nodes = run (phaseOf (testsOf limits) set-limits a-max a-min (bandOf v-max v-max v-min) (q .t) j) 7 0
       (nodesOf q) in
+      let summed = withSums (sums .left) (numbersOf q) in
+      let moved = withNodes (nodes .left) (withJerks j summed) in
       let begun = phases-begin (testsOf limits) set-limits a-max a-min (bandOf v-max v-max v-min) (q .t) j (nodesOf q)
       (eight-of q h) in
       any-way (λ (z : Profile). Carried q z) (not (sums .ok) || refusedOf (testsOf limits) (q .t) (sums .left))
       (nodes .ok)
       (arrivedOf (nodes .left) (goalOf q) && keptOf (nodes .left) (bandOf v-max a-max a-min)
       (bandOf v-max v-max v-min))
-      (profileOf (q .t) (sums .left) (q .j) (nodesOf q) (goalOf q) (labelsOf q))
-      (profileOf (q .t) (sums .left) j (nodes .left) (goalOf q) (labels limits (directionOf v-max) signs))
-      (profileOf (q .t) (sums .left) j (nodes .left) (goalOf q)
-      (labels (q .limits) (directionOf v-max) (q .«control_signs»)))
+      (profileOf summed (labelsOf q))
+      (profileOf moved (labels limits (directionOf v-max) signs))
+      (profileOf moved (labels (q .limits) (directionOf v-max) (q .«control_signs»)))
       (record {
         t-is = refl;
         pf-is = refl;
@@ -167,13 +169,14 @@ module _ (signs : ControlSigns) (limits : ReachedLimits) (jf v-max v-min a-max a
       let j = jerksOf signs (q .t) jf in
       let nodes = run (phaseOf (testsOf limits) false a-max a-min (bandOf v-max v-max v-min) (q .t) j) 7 0
       (nodesOf q) in
+      let summed = withSums (sums .left) (numbersOf q) in
+      let moved = withNodes (nodes .left) (withJerks j summed) in
       let w = last-way (not (sums .ok) || refusedOf (testsOf limits) (q .t) (sums .left)) (nodes .ok)
       (arrivedOf (nodes .left) (goalOf q) && keptOf (nodes .left) (bandOf v-max a-max a-min)
       (bandOf v-max v-max v-min))
-      (profileOf (q .t) (sums .left) (q .j) (nodesOf q) (goalOf q) (labelsOf q))
-      (profileOf (q .t) (sums .left) j (nodes .left) (goalOf q) (labels limits (directionOf v-max) signs))
-      (profileOf (q .t) (sums .left) j (nodes .left) (goalOf q)
-      (labels (q .limits) (directionOf v-max) (q .«control_signs»))) said in
+      (profileOf summed (labelsOf q))
+      (profileOf moved (labels limits (directionOf v-max) signs))
+      (profileOf moved (labels (q .limits) (directionOf v-max) (q .«control_signs»))) said in
       let u = neither (sums .ok) (refusedOf (testsOf limits) (q .t) (sums .left)) (w .0) in
       let e = both (arrivedOf (nodes .left) (goalOf q))
       (keptOf (nodes .left) (bandOf v-max a-max a-min) (bandOf v-max v-max v-min)) (w .2) in

@@ -20,7 +20,8 @@ use Rattle.profile_arrives.proofs.Yes.{Carried, held-left}
 use Rattle.step2_solver.specs.declared.Move.{Move}
 use Rattle.step2_solver.specs.declared.Times.{Times}
 use Rattle.step2_times.specs.Facts.{Accepted, Lasts, Jerks, residual, Replaces}
-use Rattle.profile.specs.Parts.{withTimes}
+use Rattle.row.specs.Row.{withTimes}
+use Rattle.profile.specs.Parts.{changed}
 use Rattle.step2_attempt.specs.Attempt.{timesOf}
 use Rattle.step2_arrives.specs.Moves.{StartOf, Starts}
 
@@ -65,7 +66,7 @@ pub record Made (m : Move) (q : Profile) : Type 0 where
 
 -- ---- start and goal stay
 module _ {m : Move} where
-  pub starts-with-times : (x : Times) (q : Profile) → TimesFit x → Starts m q → Starts m (withTimes (timesOf x) q)
+  pub starts-with-times : (x : Times) (q : Profile) → TimesFit x → Starts m q → Starts m (changed (withTimes (timesOf x)) q)
   starts-with-times x q f s =
       let h = s .held in
       record {
@@ -75,7 +76,7 @@ module _ {m : Move} where
               eight-v = h .eight-v;
               eight-p = h .eight-p;
               held-t =
-                  by-seven (λ (i : ℕ). T (fits binary64 (time (withTimes (timesOf x) q) i))) (f .t0) (f .t1) (f .t2)
+                  by-seven (λ (i : ℕ). T (fits binary64 (time (changed (withTimes (timesOf x)) q) i))) (f .t0) (f .t1) (f .t2)
                   (f .t3)
                   (f .t4) (f .t5) (f .t6);
               held-a = h .held-a;

@@ -18,12 +18,13 @@ use Rattle.profile.specs.declared.Profile.{Profile}
 use Rattle.profile.specs.declared.Checked.{Checked}
 use Rattle.labels.specs.Tests.{testsOf}
 use Rattle.labels.specs.Jerks.{jerksOf}
+use Rattle.row.specs.Row.{Nodes, withSums, withJerks, withNodes}
 use Rattle.phases.specs.Run.{Step, run}
 use Rattle.phases.specs.Times.{sumsOf, refusedOf}
 use Rattle.phases.specs.Limit.{directionOf, bandOf}
-use Rattle.phases.specs.Phase.{Nodes, replacedOf, zeroInsideOf, nodeOf, phaseOf}
+use Rattle.phases.specs.Phase.{replacedOf, zeroInsideOf, nodeOf, phaseOf}
 use Rattle.labels.specs.Labels.{labels}
-use Rattle.profile.specs.Parts.{profileOf, nodesOf, goalOf, labelsOf}
+use Rattle.profile.specs.Parts.{profileOf, nodesOf, goalOf, numbersOf, labelsOf}
 use Rattle.profile.specs.Check.{arrivedOf, keptOf, checkOf}
 use Rattle.rounding.specs.Step.{Node, stepOf}
 use Rattle.profile_arrives.specs.Reply.{jerk, node, Held}
@@ -94,12 +95,13 @@ module _ (signs : ControlSigns) (limits : ReachedLimits) (jf v-max v-min a-max a
       let j = jerksOf signs (q .t) jf in
       let b = bandOf v-max v-max v-min in
       let nodes = run (phaseOf (testsOf limits) false a-max a-min b (q .t) j) 7 0 (nodesOf q) in
-      let y = profileOf (q .t) (sums .left) j (nodes .left) (goalOf q) (labels limits (directionOf v-max) signs) in
+      let summed = withSums (sums .left) (numbersOf q) in
+      let moved = withNodes (nodes .left) (withJerks j summed) in
+      let y = profileOf moved (labels limits (directionOf v-max) signs) in
       let w = last-way (not (sums .ok) || refusedOf (testsOf limits) (q .t) (sums .left)) (nodes .ok)
       (arrivedOf (nodes .left) (goalOf q) && keptOf (nodes .left) (bandOf v-max a-max a-min) b)
-      (profileOf (q .t) (sums .left) (q .j) (nodesOf q) (goalOf q) (labelsOf q)) y
-      (profileOf (q .t) (sums .left) j (nodes .left) (goalOf q)
-      (labels (q .limits) (directionOf v-max) (q .«control_signs»)))
+      (profileOf summed (labelsOf q)) y
+      (profileOf moved (labels (q .limits) (directionOf v-max) (q .«control_signs»)))
       said in
       let made = subst (λ (z : Profile). Yes signs limits jf v-max v-min a-max a-min q z) (w .1)
       (check-yes signs limits jf v-max v-min a-max a-min q h said) in
