@@ -96,7 +96,8 @@ rows n =
     let ts = numbersBytes t ++ numbersBytes s in
     let tsj = ts ++ numbersBytes j in
     let tsja = tsj ++ numbersBytes a in
-    and (tsja ++ numbersBytes v) (n .nodes .p) (and tsja v (and tsj a (and ts j (and (numbersBytes t) s (numbers-are-bytes t)))))
+    and (tsja ++ numbersBytes v) (n .nodes .p)
+    (and tsja v (and tsj a (and ts j (and (numbersBytes t) s (numbers-are-bytes t)))))
   where
     and : (xs : List ℕ) (row : List Float) → Bytes xs → Bytes (xs ++ numbersBytes row)
     and xs row h = bytes-append xs (numbersBytes row) h (numbers-are-bytes row)

@@ -27,7 +27,8 @@ module _ {n : Numbers} {l : Labels} (el : l ≡ startLabels) {c : Checked} where
   pub checked : (at : Frame) (x : CheckNumbers) {m : Numbers}
       → m ≡ row.startOf (x .p0) (x .v0) (x .a0) (x .pf) (x .vf) (x .af) → n ≡ withTimes (x .t) m
       → {signs : ControlSigns} → signs ≡ signsOf (at 1) → {limits : ReachedLimits} → limits ≡ labelOf (at 2)
-      → c ≡ checkOf signs limits (eqb (at 3) 1) (x .jf) (x .«v_max») (x .«v_min») (x .«a_max») (x .«a_min») (profileOf n l)
+      → c ≡ checkOf signs limits (eqb (at 3) 1) (x .jf) (x .«v_max») (x .«v_min») (x .«a_max») (x .«a_min»)
+      (profileOf n l)
       → c ≡ checkedOf x at
   unfolding checkedOf boundaryOf
   checked at x em en es ek e = rw (en, em, el, es, ek) at e

@@ -32,7 +32,8 @@ node-seen : (x : List Float) (i : ℕ) (r : Next) → i < 7
     (numbersIn x)
 node-seen x i r h =
     in-a (r .a ∷ []) (set (set x (38 + i) (r .p)) (30 + i) (r .v)) (22 + i) (i + 1) (omega arith) (omega arith)
-    ∙ ap (λ (m : Numbers). withNodes (record { a = set (m .nodes .a) (i + 1) (r .a); v = m .nodes .v; p = m .nodes .p }) m)
+    ∙ ap (λ (m : Numbers).
+    withNodes (record { a = set (m .nodes .a) (i + 1) (r .a); v = m .nodes .v; p = m .nodes .p }) m)
     (in-v (r .v ∷ []) (set x (38 + i) (r .p)) (30 + i) (i + 1) (omega arith) (omega arith))
     ∙ ap (λ (m : Numbers). withNodes (record {
       a = set (m .nodes .a) (i + 1) (r .a);
@@ -94,7 +95,8 @@ held x i r e h =
           ∙ other (set x (38 + i) (r .p)) (30 + i) (37 + (i + 1)) (r .v) (omega arith)
           ∙ same x (38 + i) (37 + (i + 1)) (r .p) (omega arith) (omega (arith, e)));
       at-v = sym (other y (22 + i) (29 + (i + 1)) (r .a) (omega arith)
-          ∙ same (set x (38 + i) (r .p)) (30 + i) (29 + (i + 1)) (r .v) (omega arith) (omega (arith, e, length-set x (38 + i) (r .p))));
+          ∙ same (set x (38 + i) (r .p)) (30 + i) (29 + (i + 1)) (r .v) (omega arith)
+          (omega (arith, e, length-set x (38 + i) (r .p))));
       at-a = sym (same y (22 + i) (21 + (i + 1)) (r .a) (omega arith) (omega (arith, e, short)));
     }
   where

@@ -38,7 +38,8 @@ step-seen i x h =
 
     either : (b : Bool)
         → seen numbersIn (cond b (no! x) (yes! (set x (8 + i) y)))
-        ≡ seen (λ (s : List Float). withSums s (numbersIn x)) (cond b (no! (part 7 7 x)) (yes! (set (part 7 7 x) (i + 1) y)))
+        ≡ seen (λ (s : List Float). withSums s (numbersIn x))
+        (cond b (no! (part 7 7 x)) (yes! (set (part 7 7 x) (i + 1) y)))
     either true = refl
     either false = rw (in-sums (y ∷ []) x (8 + i) (i + 1) (omega arith) (omega arith))
 
@@ -58,13 +59,16 @@ summed x e =
     t : List Float
     t = set (part 7 7 x) 0 first
 
-    from-first : seen numbersIn (run row-sum 6 0 (set x 7 first)) ≡ seen (λ (s : List Float). withSums s n) (run (sumStep (n .t)) 6 0 t)
+    from-first : seen numbersIn (run row-sum 6 0 (set x 7 first))
+        ≡ seen (λ (s : List Float). withSums s n) (run (sumStep (n .t)) 6 0 t)
     from-first =
         runs numbersIn row-sum on-numbers 6 step-seen 6 0 (set x 7 first) (omega arith)
         ∙ ap (run on-numbers 6 0) (in-sums (first ∷ []) x 7 0 refl (omega arith))
-        ∙ sym (runs (λ (s : List Float). withSums s n) (sumStep (n .t)) on-numbers 6 (λ i s h. beside i s) 6 0 t (omega arith))
+        ∙ sym (runs (λ (s : List Float). withSums s n) (sumStep (n .t)) on-numbers 6 (λ i s h. beside i s) 6 0 t
+        (omega arith))
       where
-        beside : (i : ℕ) (s : List Float) → seen (λ (s : List Float). withSums s n) (sumStep (n .t) i s) ≡ on-numbers i (withSums s n)
+        beside : (i : ℕ) (s : List Float)
+            → seen (λ (s : List Float). withSums s n) (sumStep (n .t) i s) ≡ on-numbers i (withSums s n)
         beside i s = unfold on-numbers in refl
 
     either : (b : Bool)

@@ -59,7 +59,8 @@ module _ (l : Limits) (ks : List Trial) (q : Profile) {k k' : Trial} {c : Checke
   unfolding triedOf
   no! y h = rw (← is, ← tries, y) h
 
-pub last : (l : Limits) (q : Profile) {k k' : Trial} {c : Checked} → k' ≡ k → c ≡ tryOf l k' q → c ≡ triedOf l (k ∷ []) q
+pub last : (l : Limits) (q : Profile) {k k' : Trial} {c : Checked} → k' ≡ k → c ≡ tryOf l k' q
+    → c ≡ triedOf l (k ∷ []) q
 unfolding triedOf
 last l q {k} {k'} {c} is tries = rw (← is, ← tries) (by (c .ok) (c .profile))
   where

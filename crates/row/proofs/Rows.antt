@@ -118,21 +118,24 @@ module _ (vs x : List Float) (m i : ℕ) where
       (rw (goal-kept vs x m (omega arith))))
 
   pub in-a : m ≡ 21 + i → i + length vs ≤ 8
-      → numbersIn (sets x m vs) ≡ withNodes (record { a = sets (part 21 8 x) i vs; v = part 29 8 x; p = part 37 8 x }) (numbersIn x)
+      → numbersIn (sets x m vs)
+      ≡ withNodes (record { a = sets (part 21 8 x) i vs; v = part 29 8 x; p = part 37 8 x }) (numbersIn x)
   in-a e h =
       rw (above 0 7 vs x m (omega arith), above 7 7 vs x m (omega arith), above 14 7 vs x m (omega arith))
       (rw (in-it 21 8 vs x m i e h, below 29 8 vs x m (omega arith), below 37 8 vs x m (omega arith))
       (rw (goal-kept vs x m (omega arith))))
 
   pub in-v : m ≡ 29 + i → i + length vs ≤ 8
-      → numbersIn (sets x m vs) ≡ withNodes (record { a = part 21 8 x; v = sets (part 29 8 x) i vs; p = part 37 8 x }) (numbersIn x)
+      → numbersIn (sets x m vs)
+      ≡ withNodes (record { a = part 21 8 x; v = sets (part 29 8 x) i vs; p = part 37 8 x }) (numbersIn x)
   in-v e h =
       rw (above 0 7 vs x m (omega arith), above 7 7 vs x m (omega arith), above 14 7 vs x m (omega arith))
       (rw (above 21 8 vs x m (omega arith), in-it 29 8 vs x m i e h, below 37 8 vs x m (omega arith))
       (rw (goal-kept vs x m (omega arith))))
 
   pub in-p : m ≡ 37 + i → i + length vs ≤ 8
-      → numbersIn (sets x m vs) ≡ withNodes (record { a = part 21 8 x; v = part 29 8 x; p = sets (part 37 8 x) i vs }) (numbersIn x)
+      → numbersIn (sets x m vs)
+      ≡ withNodes (record { a = part 21 8 x; v = part 29 8 x; p = sets (part 37 8 x) i vs }) (numbersIn x)
   in-p e h =
       rw (above 0 7 vs x m (omega arith), above 7 7 vs x m (omega arith), above 14 7 vs x m (omega arith))
       (rw (above 21 8 vs x m (omega arith), above 29 8 vs x m (omega arith), in-it 37 8 vs x m i e h)

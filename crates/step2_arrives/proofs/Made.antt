@@ -66,7 +66,8 @@ pub record Made (m : Move) (q : Profile) : Type 0 where
 
 -- ---- start and goal stay
 module _ {m : Move} where
-  pub starts-with-times : (x : Times) (q : Profile) → TimesFit x → Starts m q → Starts m (changed (withTimes (timesOf x)) q)
+  pub starts-with-times : (x : Times) (q : Profile) → TimesFit x → Starts m q
+      → Starts m (changed (withTimes (timesOf x)) q)
   starts-with-times x q f s =
       let h = s .held in
       record {
@@ -76,7 +77,8 @@ module _ {m : Move} where
               eight-v = h .eight-v;
               eight-p = h .eight-p;
               held-t =
-                  by-seven (λ (i : ℕ). T (fits binary64 (time (changed (withTimes (timesOf x)) q) i))) (f .t0) (f .t1) (f .t2)
+                  by-seven (λ (i : ℕ). T (fits binary64 (time (changed (withTimes (timesOf x)) q) i))) (f .t0) (f .t1)
+                  (f .t2)
                   (f .t3)
                   (f .t4) (f .t5) (f .t6);
               held-a = h .held-a;

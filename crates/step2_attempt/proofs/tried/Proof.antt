@@ -15,7 +15,8 @@ returns c =
     let k = q .k in let l = q .l in
     rw (i .if1 .taken)
     (c .check .ensures
-    ∙ ap (λ (n : Numbers). checkOf (k .signs) (k .label) false (k .jf) (l .«v_max») (l .«v_min») (l .«a_max») (l .«a_min»)
+    ∙ ap (λ (n : Numbers).
+    checkOf (k .signs) (k .label) false (k .jf) (l .«v_max») (l .«v_min») (l .«a_max») (l .«a_min»)
     (profileOf n (q .labels))) (s .set-times .ensures))
 
 returns-2 : tie.Need-returns-2

@@ -45,10 +45,12 @@ read i =
 abbrev second : tie.Else3 → tie.Else2
 second i = i .before .before .before .before .before
 
-worked : (i : tie.Else3) → i .before .quartics-of .result ≡ quarticsAt (shape (first (second i))) (at (first (second i)))
+worked : (i : tie.Else3)
+    → i .before .quartics-of .result ≡ quarticsAt (shape (first (second i))) (at (first (second i)))
 worked i =
     let k = i .before in let l = k .before in let j = first (second i) in
-    quartics-are (shape j) (at j) (read (second i) .1) (l .before .solver .ensures) (l .limits .ensures) (k .quartics-of .ensures)
+    quartics-are (shape j) (at j) (read (second i) .1) (l .before .solver .ensures) (l .limits .ensures)
+    (k .quartics-of .ensures)
 
 returns : tie.Need-returns
 returns c =

@@ -21,7 +21,8 @@ abbrev μ-loop : tie.MeasureT-loop
 loop-holds : tie.Need-loop-holds Inv-loop μ-loop
 loop-holds c =
     let q = c .before .before .before in
-    (omega arith, refl, refl, none-read (q .args .x .now) (q .args .some .now) (q .args .k) (c .whole .ensures) (q .pre))
+    let x = q .args .x .now in let some = q .args .some .now in
+    (omega arith, refl, refl, none-read x some (q .args .k) (c .whole .ensures) (q .pre))
 
 loop-again : tie.Need-loop-again Inv-loop μ-loop
 loop-again c =
