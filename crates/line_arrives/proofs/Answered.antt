@@ -23,8 +23,9 @@ use Rattle.line_frame.proofs.Numbers.{each-finite}
 use Rattle.line_questions.specs.Questions.{ask, placesFit, questionsOf}
 use Rattle.line_questions.proofs.Asked.{AllYes}
 use Rattle.line_reply.specs.Reply.{replyBytesOf}
-use Rattle.lines.specs.ShapeLine.{shapeLineOf}
-use Rattle.lines.specs.Answer.{replyOf, repliedOf, answerOf}
+use Rattle.line_answers.specs.ShapeLine.{shapeLineOf}
+use Rattle.line_answers.specs.FrameAnswer.{replyOf, repliedOf}
+use Rattle.lines.specs.Answer.{answerOf}
 use Rattle.line_places.specs.Exactly.{rowFor, replyTo}
 use Rattle.line_places.proofs.Bytes.{reply-bytes}
 use Rattle.line_places.proofs.Places.{frame-yes}

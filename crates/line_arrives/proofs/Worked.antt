@@ -30,8 +30,9 @@ use Rattle.line_frame.specs.Frame.{wordAt}
 use Rattle.line_frame.specs.Numbers.{moveOf}
 use Rattle.line_questions.specs.Questions.{countsFit, countsSuit, questionsOf}
 use Rattle.line_reply.specs.Reply.{headOf, rowsOf, replyBytesOf}
-use Rattle.lines.specs.ShapeLine.{shapeLineOf}
-use Rattle.lines.specs.Answer.{Answer, replyOf, repliedOf, answerOf}
+use Rattle.line_answers.specs.ShapeLine.{shapeLineOf}
+use Rattle.line_answers.specs.FrameAnswer.{Answer, replyOf, repliedOf}
+use Rattle.lines.specs.Answer.{answerOf}
 use Rattle.line_arrives.specs.LineArrives.{AsksShape, SaysYes, jerkIn, Sizes, Demand3}
 use Rattle.line_arrives.specs.Worked.{worked-line}
 use Rattle.line_arrives.proofs.Theorem.{yes-arrives}

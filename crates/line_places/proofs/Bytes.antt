@@ -28,7 +28,7 @@ use Rattle.line_frame.specs.Frame.{Frame}
 use Rattle.line_reply.specs.Reply.{numbersBytes, headOf, rowsOf, replyBytesOf, quarticBytesOf, quarticBytes}
 use Rattle.step2_solver.specs.declared.Shape.{Shape}
 use Rattle.line_questions.specs.Questions.{quarticsAt}
-use Rattle.lines.specs.QuarticLine.{bothBytes, quarticLineOf}
+use Rattle.line_answers.specs.QuarticLine.{bothBytes, quarticLineOf}
 
 -- every one of a list is a byte
 abbrev pub Bytes : List ℕ → Type 0

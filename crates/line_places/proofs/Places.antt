@@ -17,7 +17,8 @@ use Rattle.line_frame.specs.Frame.{Frame, byteAt}
 use Rattle.line_questions.specs.Questions.{Question, ask, placesFit, firstNo, questionsOf}
 use Rattle.line_questions.specs.Questions.{lineQuestions, frameQuestions, questions}
 use Rattle.line_questions.proofs.Asked.{AllYes, Numbered, all-yes, all-rest}
-use Rattle.lines.specs.Answer.{replyOf, repliedOf, answerOf}
+use Rattle.line_answers.specs.FrameAnswer.{replyOf, repliedOf}
+use Rattle.lines.specs.Answer.{answerOf}
 use Rattle.line_places.specs.Exactly.{rowFor, replyTo, Untouched, FilledExactly}
 use Rattle.line_places.proofs.Bytes.{bytes-digits}
 use Rattle.line_places.proofs.Replies.{reply-of-length, reply-of-bytes}

@@ -20,10 +20,10 @@ use Rattle.line_frame.specs.Numbers.{checkNumbersOf, moveOf, firstAnswerOf, sec
 use Rattle.line_questions.specs.Questions.{quarticsAt}
 use Rattle.line_reply.specs.Reply.{numbersBytes, headOf, rowsOf, replyBytesOf, quarticBytesOf}
 use Rattle.line_reply.proofs.Rows.{length-numbers}
-use Rattle.lines.specs.CheckLine.{checkedOf, checkLineOf}
-use Rattle.lines.specs.ShapeLine.{startOf, shapeLineOf}
-use Rattle.lines.specs.QuarticLine.{bothBytes, quarticLineOf}
-use Rattle.lines.specs.Answer.{replyOf}
+use Rattle.line_answers.specs.CheckLine.{checkedOf, checkLineOf}
+use Rattle.line_answers.specs.ShapeLine.{startOf, shapeLineOf}
+use Rattle.line_answers.specs.QuarticLine.{bothBytes, quarticLineOf}
+use Rattle.line_answers.specs.FrameAnswer.{replyOf}
 use Rattle.line_places.proofs.Bytes.{Bytes, reply-bytes, quartics-bytes}
 
 -- ---- a record: the one that a line starts from, and what `check` or a shape leaves of it

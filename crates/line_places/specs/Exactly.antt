@@ -9,7 +9,8 @@ use Rattle.hex.specs.Hex.{allDigits, bytesOf, hexOf}
 use Rattle.line_frame.specs.Frame.{byteAt}
 use Rattle.line_kinds.specs.declared.Row.{Row}
 use Rattle.line_kinds.specs.Kinds.{rowOf}
-use Rattle.lines.specs.Answer.{replyOf, answerOf}
+use Rattle.line_answers.specs.FrameAnswer.{replyOf}
+use Rattle.lines.specs.Answer.{answerOf}
 
 -- the kind of a line: the first byte that its characters stand for
 abbrev pub kindOf : List ℕ → ℕ

@@ -12,7 +12,8 @@ use borrow.Author.Tests.{ne-eqb, le-leb}
 use Rattle.line_kinds.specs.Kinds.{replyMost, rowOf}
 use Rattle.line_kinds.proofs.Rows.{sound}
 use Rattle.line_questions.specs.Questions.{placesFit}
-use Rattle.lines.specs.Answer.{repliedOf, answerOf, Outcome, outcomeOf}
+use Rattle.line_answers.specs.FrameAnswer.{repliedOf}
+use Rattle.lines.specs.Answer.{answerOf, Outcome, outcomeOf}
 use Rattle.line_places.specs.Exactly.{kindOf, replyTo}
 use Rattle.line_stream.specs.Output.{answerMost, twoDigits, textOf, lineOutput}
 use Rattle.line_stream.proofs.Replies.{reply-first, reply-exact}

@@ -8,7 +8,8 @@ use lib.ListN.{length}
 use borrow.Author.Tests.{lt-leb}
 use Rattle.line_kinds.specs.Kinds.{lineMost}
 use Rattle.line_questions.specs.Questions.{lengthFits}
-use Rattle.lines.specs.Answer.{repliedOf, answerOf}
+use Rattle.line_answers.specs.FrameAnswer.{repliedOf}
+use Rattle.lines.specs.Answer.{answerOf}
 
 long : (n : ℕ) → lineMost < n → lengthFits n ≡ false
 long n h = rw (lt-leb n lineMost h) (by (eqb (n % 2) 0 && leb 2 n))

@@ -7,7 +7,8 @@ use lib.ListN.{length}
 use borrow.Author.Tests.{ne-eqb}
 use Rattle.hex.specs.Hex.{bytesOf, fill}
 use Rattle.line_kinds.specs.Kinds.{rowOf}
-use Rattle.lines.specs.Answer.{repliedOf, answerOf}
+use Rattle.line_answers.specs.FrameAnswer.{repliedOf}
+use Rattle.lines.specs.Answer.{answerOf}
 use Rattle.line_places.specs.Exactly.{kindOf, replyTo}
 use Rattle.line_places.proofs.Places.{after-a-reply}
 

@@ -17,8 +17,9 @@ use Rattle.line_kinds.proofs.Rows.{sound}
 use Rattle.line_frame.specs.Frame.{Frame, byteAt}
 use Rattle.line_questions.specs.Questions.{Question, ask, lengthFits, isKind, bytesFit, questionsOf, lineQuestions}
 use Rattle.line_questions.proofs.Asked.{AllYes, past}
-use Rattle.lines.specs.Answer.{Answer, replyOf, repliedOf, answerOf, frameAnswerOf, Outcome, outcomeOf}
-use Rattle.lines.proofs.Replies.{refused}
+use Rattle.line_answers.specs.FrameAnswer.{Answer, replyOf, repliedOf, frameAnswerOf}
+use Rattle.lines.specs.Answer.{answerOf, Outcome, outcomeOf}
+use Rattle.line_answers.proofs.Replies.{refused}
 
 -- ---- a frame in its array, zeros after it
 zeros-at : (n i : ℕ) → _≡_ {A = ℕ} (getD (replicate n 0) i 0) 0

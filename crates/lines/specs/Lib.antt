@@ -1,4 +1,1 @@
-pub mod CheckLine
-pub mod ShapeLine
-pub mod QuarticLine
 pub mod Answer

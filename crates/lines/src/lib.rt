@@ -1,14 +1,10 @@
 // The line entry: one frame a line, in hexadecimal digits, answered by a reply or by the number of
 // the first question that it fails.
-mod check_line;
-mod replying;
-mod shape_line;
-
 use hex::decode;
+use line_answers::reply_to;
 use line_kinds::FRAME;
 use line_kinds::row_of;
 use line_questions::length_fits;
-use replying::reply_to;
 ghost use mathlib.Core.Path.{_≡_};
 ghost use Rattle.lines.specs.Answer.{answerOf, outcomeOf};
 

@@ -29,9 +29,10 @@ use Rattle.line_frame.specs.Frame.{wordAt}
 use Rattle.line_frame.specs.Numbers.{checkNumbersOf, moveOf, rootAnswerOf}
 use Rattle.line_reply.specs.Reply.{headOf, rowsOf, replyBytesOf}
 use Rattle.line_questions.specs.Questions.{countsFit, countsSuit, questionsOf}
-use Rattle.lines.specs.CheckLine.{checkedOf}
-use Rattle.lines.specs.ShapeLine.{shapeLineOf}
-use Rattle.lines.specs.Answer.{replyOf, repliedOf, answerOf}
+use Rattle.line_answers.specs.CheckLine.{checkedOf}
+use Rattle.line_answers.specs.ShapeLine.{shapeLineOf}
+use Rattle.line_answers.specs.FrameAnswer.{replyOf, repliedOf}
+use Rattle.lines.specs.Answer.{answerOf}
 use Rattle.marked_moves.specs.Moves.{table, right}
 
 pub marked-moves : right table ≡ true

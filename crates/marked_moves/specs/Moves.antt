@@ -15,7 +15,8 @@ use Rattle.hex.specs.Hex.{bytesOf, hexOf}
 use Rattle.line_kinds.specs.Kinds.{replyMost}
 use Rattle.line_frame.specs.Frame.{byteAt, numberAt, numbersAt}
 use Rattle.line_reply.specs.Reply.{numbersBytes}
-use Rattle.lines.specs.Answer.{Answer, answerOf}
+use Rattle.line_answers.specs.FrameAnswer.{Answer}
+use Rattle.lines.specs.Answer.{answerOf}
 
 -- two numbers are the same, all NaNs being one
 abbrev same : Float → Float → Bool

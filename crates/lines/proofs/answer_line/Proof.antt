@@ -1,7 +1,8 @@
 -- The C entry is `answerOf`: the number and the places of `answered`. Assumes nothing.
 use mathlib.Core.Path.{ap}
 use borrow.Author.Needs.{needs}
-use Rattle.lines.specs.Answer.{Answer, Outcome, outcomeOf}
+use Rattle.line_answers.specs.FrameAnswer.{Answer}
+use Rattle.lines.specs.Answer.{Outcome, outcomeOf}
 use Rattle.lines.proofs.answer_line.Statement.{statement}
 use Rattle.lines.proofs.answer_line.Tie as tie
 

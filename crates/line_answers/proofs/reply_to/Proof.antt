@@ -7,10 +7,10 @@ use lib.ListN.{length}
 use borrow.Author.Tests.{le-leb}
 use borrow.Author.Needs.{needs}
 use Rattle.line_questions.specs.Questions.{ask, questionsOf}
-use Rattle.lines.specs.Answer.{replyOf, frameAnswerOf}
-use Rattle.lines.proofs.Replies.{replied}
-use Rattle.lines.proofs.replying.reply_to.Statement.{statement}
-use Rattle.lines.proofs.replying.reply_to.Tie as tie
+use Rattle.line_answers.specs.FrameAnswer.{replyOf, frameAnswerOf}
+use Rattle.line_answers.proofs.Replies.{replied}
+use Rattle.line_answers.proofs.reply_to.Statement.{statement}
+use Rattle.line_answers.proofs.reply_to.Tie as tie
 
 returns : tie.Need-returns
 unfolding frameAnswerOf questionsOf replyOf

@@ -1,10 +1,10 @@
 -- `quartics_reply` writes the bytes of both quartics. Assumes nothing.
 use borrow.Author.Needs.{needs}
 use Rattle.line_kinds.specs.Kinds.{quarticsPlaces}
-use Rattle.lines.specs.QuarticLine.{bothBytes}
-use Rattle.lines.proofs.Replies.{filled}
-use Rattle.lines.proofs.shape_line.quartics_reply.Statement.{statement}
-use Rattle.lines.proofs.shape_line.quartics_reply.Tie as tie
+use Rattle.line_answers.specs.QuarticLine.{bothBytes}
+use Rattle.line_answers.proofs.Replies.{filled}
+use Rattle.line_answers.proofs.shape_line.quartics_reply.Statement.{statement}
+use Rattle.line_answers.proofs.shape_line.quartics_reply.Tie as tie
 
 returns : tie.Need-returns
 unfolding bothBytes

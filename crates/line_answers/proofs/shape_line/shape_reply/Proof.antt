@@ -7,10 +7,10 @@ use Rattle.profile.specs.Parts.{profileIn}
 use Rattle.position_third_step2.specs.Shape.{shapeOf}
 use Rattle.line_kinds.specs.Kinds.{recordPlaces}
 use Rattle.line_reply.specs.Reply.{replyBytesOf}
-use Rattle.lines.proofs.Replies.{filled}
-use Rattle.lines.proofs.Records.{shaped}
-use Rattle.lines.proofs.shape_line.shape_reply.Statement.{statement}
-use Rattle.lines.proofs.shape_line.shape_reply.Tie as tie
+use Rattle.line_answers.proofs.Replies.{filled}
+use Rattle.line_answers.proofs.Records.{shaped}
+use Rattle.line_answers.proofs.shape_line.shape_reply.Statement.{statement}
+use Rattle.line_answers.proofs.shape_line.shape_reply.Tie as tie
 
 returns : tie.Need-returns
 unfolding profileIn

@@ -14,11 +14,11 @@ use Rattle.line_frame.specs.Numbers.{moveFinite, moveOf}
 use Rattle.line_frame.proofs.Finite.{move-read, move-unread}
 use Rattle.line_questions.specs.Questions.{countsFit, quarticsAt}
 use Rattle.line_reply.specs.Reply.{replyBytesOf}
-use Rattle.lines.specs.QuarticLine.{bothBytes}
-use Rattle.lines.proofs.Moves.{fifth, sixth, quartics-eighth, quartics-all, seventh, eighth, all}
-use Rattle.lines.proofs.Moves.{quartics-are, shape-is}
-use Rattle.lines.proofs.shape_line.shape_line.Statement.{statement}
-use Rattle.lines.proofs.shape_line.shape_line.Tie as tie
+use Rattle.line_answers.specs.QuarticLine.{bothBytes}
+use Rattle.line_answers.proofs.Moves.{fifth, sixth, quartics-eighth, quartics-all, seventh, eighth, all}
+use Rattle.line_answers.proofs.Moves.{quartics-are, shape-is}
+use Rattle.line_answers.proofs.shape_line.shape_line.Statement.{statement}
+use Rattle.line_answers.proofs.shape_line.shape_line.Tie as tie
 
 -- ---- what is known past question 5, past question 6, and once the quartics are worked out
 abbrev shape : tie.Else1 → Shape

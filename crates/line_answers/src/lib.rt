@@ -1,11 +1,14 @@
 // The answer to a frame of the length of its kind, by what it asks.
-use super::check_line::check_line;
-use super::shape_line::shape_line;
+mod check_line;
+mod shape_line;
+
+use check_line::check_line;
 use line_kinds::Asks;
 use line_kinds::FRAME;
+use shape_line::shape_line;
 ghost use mathlib.Core.Path.{_≡_};
 ghost use Rattle.line_frame.specs.Frame.{byteAt};
-ghost use Rattle.lines.specs.Answer.{Answer, frameAnswerOf};
+ghost use Rattle.line_answers.specs.FrameAnswer.{Answer, frameAnswerOf};
 
 pub fn reply_to(asks: Asks, frame: &[u8; FRAME], reply: &mut [u8]) -> u32
     ensures { λ r. ⌜ record { number = r; places = now (reply .exit) }

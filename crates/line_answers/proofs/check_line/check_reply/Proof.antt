@@ -7,10 +7,10 @@ use Rattle.profile.specs.Parts.{profileIn}
 use Rattle.line_kinds.specs.Kinds.{recordPlaces}
 use Rattle.line_frame.specs.Frame.{byteAt}
 use Rattle.line_reply.specs.Reply.{replyBytesOf}
-use Rattle.lines.proofs.Replies.{filled}
-use Rattle.lines.proofs.Records.{checked}
-use Rattle.lines.proofs.check_line.check_reply.Statement.{statement}
-use Rattle.lines.proofs.check_line.check_reply.Tie as tie
+use Rattle.line_answers.proofs.Replies.{filled}
+use Rattle.line_answers.proofs.Records.{checked}
+use Rattle.line_answers.proofs.check_line.check_reply.Statement.{statement}
+use Rattle.line_answers.proofs.check_line.check_reply.Tie as tie
 
 returns : tie.Need-returns
 unfolding profileIn

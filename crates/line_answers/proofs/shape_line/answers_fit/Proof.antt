@@ -1,7 +1,7 @@
 -- `answers_fit` is question 5 where it is asked. Assumes nothing.
 use borrow.Author.Needs.{needs}
-use Rattle.lines.proofs.shape_line.answers_fit.Statement.{statement}
-use Rattle.lines.proofs.shape_line.answers_fit.Tie as tie
+use Rattle.line_answers.proofs.shape_line.answers_fit.Statement.{statement}
+use Rattle.line_answers.proofs.shape_line.answers_fit.Tie as tie
 
 returns : tie.Need-returns
 returns c = rw (c .if1 .taken)

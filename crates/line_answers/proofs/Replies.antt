@@ -10,7 +10,7 @@ use Rattle.hex.specs.Hex.{hexOf, fill}
 use Rattle.line_questions.specs.Questions.{Question, ask}
 use Rattle.line_questions.proofs.Asked.{AllYes, stops, none}
 use Rattle.line_reply.specs.Reply.{writtenOf}
-use Rattle.lines.specs.Answer.{repliedOf}
+use Rattle.line_answers.specs.FrameAnswer.{repliedOf}
 
 module _ (bytes lent : List ℕ) where
   -- the first were answered yes, and the next gets a no

@@ -12,10 +12,10 @@ use Rattle.line_kinds.specs.Kinds.{recordPlaces}
 use Rattle.line_frame.specs.Frame.{Frame, byteAt}
 use Rattle.line_frame.specs.Numbers.{checkFinite}
 use Rattle.line_questions.specs.Questions.{ask, choicesFit, questionsOf}
-use Rattle.lines.specs.Answer.{replyOf, frameAnswerOf}
-use Rattle.lines.proofs.Replies.{refused, replied}
-use Rattle.lines.proofs.check_line.check_line.Statement.{statement}
-use Rattle.lines.proofs.check_line.check_line.Tie as tie
+use Rattle.line_answers.specs.FrameAnswer.{replyOf, frameAnswerOf}
+use Rattle.line_answers.proofs.Replies.{refused, replied}
+use Rattle.line_answers.proofs.check_line.check_line.Statement.{statement}
+use Rattle.line_answers.proofs.check_line.check_line.Tie as tie
 
 -- ---- what is known past question 5, and past question 6
 abbrev at : tie.Else1 → Frame

@@ -20,8 +20,8 @@ ghost use Rattle.line_kinds.specs.declared.Asks.the-variants.{OfCheck};
 ghost use Rattle.line_kinds.specs.Kinds.{recordPlaces};
 ghost use Rattle.line_frame.specs.Frame.{byteAt};
 ghost use Rattle.line_reply.specs.Reply.{replyBytesOf};
-ghost use Rattle.lines.specs.CheckLine.{checkedOf};
-ghost use Rattle.lines.specs.Answer.{Answer, frameAnswerOf};
+ghost use Rattle.line_answers.specs.CheckLine.{checkedOf};
+ghost use Rattle.line_answers.specs.FrameAnswer.{Answer, frameAnswerOf};
 
 // The reply, of numbers that are read.
 fn check_reply(x: CheckNumbers, frame: &[u8; FRAME], reply: &mut [u8])

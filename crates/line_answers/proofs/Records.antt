@@ -15,8 +15,8 @@ use Rattle.profile.specs.Boundary.{boundaryOf}
 use Rattle.step2_solver.specs.declared.Move.{Move}
 use Rattle.line_frame.specs.declared.CheckNumbers.{CheckNumbers}
 use Rattle.line_frame.specs.Frame.{Frame}
-use Rattle.lines.specs.CheckLine.{checkedOf}
-use Rattle.lines.specs.ShapeLine.{startOf}
+use Rattle.line_answers.specs.CheckLine.{checkedOf}
+use Rattle.line_answers.specs.ShapeLine.{startOf}
 
 module _ {n : Numbers} {l : Labels} (el : l ≡ startLabels) {c : Checked} where
   pub shaped : (f : Profile → Checked) (x : Move) → n ≡ row.startOf (x .p0) (x .v0) (x .a0) (x .pf) (x .vf) (x .af)

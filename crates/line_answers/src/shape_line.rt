@@ -30,9 +30,9 @@ ghost use Rattle.line_kinds.specs.Kinds.{recordPlaces, quarticsPlaces};
 ghost use Rattle.line_frame.specs.Frame.{byteAt};
 ghost use Rattle.line_questions.specs.Questions.{countsFit};
 ghost use Rattle.line_reply.specs.Reply.{replyBytesOf};
-ghost use Rattle.lines.specs.QuarticLine.{bothBytes};
-ghost use Rattle.lines.specs.ShapeLine.{startOf};
-ghost use Rattle.lines.specs.Answer.{Answer, ofShape, frameAnswerOf};
+ghost use Rattle.line_answers.specs.QuarticLine.{bothBytes};
+ghost use Rattle.line_answers.specs.ShapeLine.{startOf};
+ghost use Rattle.line_answers.specs.FrameAnswer.{Answer, ofShape, frameAnswerOf};
 
 // The reply, of numbers that are read and worked out.
 fn shape_reply(

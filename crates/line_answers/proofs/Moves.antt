@@ -23,10 +23,10 @@ use Rattle.line_frame.specs.Frame.{Frame}
 use Rattle.line_frame.specs.Numbers.{moveFinite, moveOf, firstAnswerOf, secondAnswerOf}
 use Rattle.line_questions.specs.Questions.{ask, countsFit, countsSuit, quarticsAt, questionsOf}
 use Rattle.line_reply.specs.Reply.{replyBytesOf}
-use Rattle.lines.specs.ShapeLine.{startOf, shapeLineOf}
-use Rattle.lines.specs.QuarticLine.{quarticLineOf}
-use Rattle.lines.specs.Answer.{Answer, replyOf, ofShape, frameAnswerOf}
-use Rattle.lines.proofs.Replies.{refused, replied}
+use Rattle.line_answers.specs.ShapeLine.{startOf, shapeLineOf}
+use Rattle.line_answers.specs.QuarticLine.{quarticLineOf}
+use Rattle.line_answers.specs.FrameAnswer.{Answer, replyOf, ofShape, frameAnswerOf}
+use Rattle.line_answers.proofs.Replies.{refused, replied}
 
 module _ (shape : Shape) (at : Frame) (lent : List ℕ) where
   abbrev Is : Bool → ℕ → List ℕ → Type 0

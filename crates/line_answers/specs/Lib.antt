@@ -1,0 +1,4 @@
+pub mod CheckLine
+pub mod ShapeLine
+pub mod QuarticLine
+pub mod FrameAnswer
