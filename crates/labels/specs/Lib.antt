@@ -1,3 +1,2 @@
 pub mod Labels
 pub mod Tests
-pub mod Jerks

@@ -1,6 +1,5 @@
 // The labels of a record: which limits a move reaches, its direction and its control signs; as document 01's numbers,
 // and back.
-pub mod jerks;
 pub mod tests;
 
 ghost use mathlib.Core.Path.{_≡_};

@@ -9,12 +9,12 @@ use Rattle.float.specs.Helpers.{absOf}
 use Rattle.util.specs.Integrate.{integrateOf}
 use Rattle.sqrt.specs.Sqrt.{sqrtOf}
 use Rattle.labels.specs.Tests.{testsOf}
-use Rattle.labels.specs.Jerks.{jerksOf}
+use Rattle.jerks.specs.Jerks.{jerksOf}
 use Rattle.phases.specs.Run.{run}
 use Rattle.phases.specs.Times.{sumStep, sumsOf, refusedOf}
-use Rattle.phases.specs.Limit.{bandOf}
+use Rattle.limits.specs.Limits.{bandOf, arrivedOf, keptOf}
 use Rattle.phases.specs.Phase.{replacedOf, zeroInsideOf, nodeOf, phaseOf}
-use Rattle.profile.specs.Check.{arrivedOf, keptOf, checkOf}
+use Rattle.profile.specs.Check.{checkOf}
 use Rattle.profile.specs.Boundary.{boundaryOf}
 use Rattle.rounding.specs.Exact.{Size}
 use Rattle.rounding.specs.Value.{unit, mag, sign, val}

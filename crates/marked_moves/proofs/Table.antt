@@ -9,12 +9,12 @@ use Rattle.sqrt.specs.Sqrt.{sqrtOf}
 use Rattle.positive_set.specs.Set.{holds, insertOf, insertAllOf, intoOf, sortedOf}
 use Rattle.roots.specs.Quartic.{needOf, factorsOf, quadraticOf, withoutCdOf, withCbrtOf, resolvedOf, offeredOf, rootsOf}
 use Rattle.labels.specs.Tests.{testsOf}
-use Rattle.labels.specs.Jerks.{jerksOf}
+use Rattle.jerks.specs.Jerks.{jerksOf}
 use Rattle.phases.specs.Run.{run}
 use Rattle.phases.specs.Times.{sumStep, sumsOf, refusedOf}
-use Rattle.phases.specs.Limit.{bandOf}
+use Rattle.limits.specs.Limits.{bandOf, arrivedOf, keptOf}
 use Rattle.phases.specs.Phase.{replacedOf, zeroInsideOf, nodeOf, phaseOf}
-use Rattle.profile.specs.Check.{arrivedOf, keptOf, checkOf}
+use Rattle.profile.specs.Check.{checkOf}
 use Rattle.profile.specs.Boundary.{boundaryOf}
 use Rattle.step2_solver.specs.New.{newOf}
 use Rattle.time_acc0_acc1_vel.specs.TimeAcc0Acc1Vel.{acc0Acc1VelUdduApplies, acc0Acc1VelUdduRadicand, acc0Acc1VelUdduH1}

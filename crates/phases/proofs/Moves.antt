@@ -11,7 +11,7 @@ use lib.Ieee.{Float, nan}
 use Rattle.labels.specs.declared.tests.Tests.{Tests}
 use Rattle.row.specs.Row.{Nodes, Numbers, part, numbersIn, withNodes}
 use Rattle.row.proofs.Rows.{part-at, in-a, in-v, in-p}
-use Rattle.phases.specs.declared.limit.Band.{Band}
+use Rattle.limits.specs.declared.Band.{Band}
 use Rattle.phases.specs.declared.phase.Next.{Next}
 use Rattle.phases.specs.Run.{Step, no!, run}
 use Rattle.phases.specs.Phase.{nextOf, nodeOf, phaseOf}

@@ -2,7 +2,7 @@
 use mathlib.Core.Bool.{Bool}
 use lib.Ieee.{Float}
 use Rattle.labels.specs.declared.tests.Tests.{Tests}
-use Rattle.phases.specs.declared.limit.Band.{Band}
+use Rattle.limits.specs.declared.Band.{Band}
 use Rattle.phases.specs.Run.{Step, run}
 use Rattle.phases.specs.Times.{sumsOf}
 use Rattle.phases.specs.Phase.{phaseOf}

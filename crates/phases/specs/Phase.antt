@@ -9,7 +9,7 @@ use Rattle.float.specs.Ops.{_⊖_, _⊗_, _⊘_, #0, #2, #ε}
 use Rattle.row.specs.Row.{Nodes}
 use Rattle.util.specs.Integrate.{integrateOf}
 use Rattle.labels.specs.declared.tests.Tests.{Tests}
-use Rattle.phases.specs.declared.limit.Band.{Band}
+use Rattle.limits.specs.declared.Band.{Band}
 use Rattle.phases.specs.declared.phase.Next.{Next}
 use Rattle.phases.specs.Run.{Step}
 

@@ -1,7 +1,7 @@
 // The seven phases of `check`, up to the first whose test says no.
-use super::limit::Band;
 use super::phase::phase;
 use labels::tests::Tests;
+use limits::Band;
 use row::A;
 use row::J;
 use row::NUMBERS;

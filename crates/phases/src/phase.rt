@@ -1,8 +1,8 @@
 // One phase of `check`: the node after it, the accelerations that labels replace, and the velocity at zero
 // acceleration.
-use super::limit::Band;
 use float::pick;
 use labels::tests::Tests;
+use limits::Band;
 use util::integrate;
 ghost use mathlib.Core.Path.{_≡_};
 ghost use Rattle.phases.specs.Phase.{replacedOf, zeroInsideOf, nextOf};

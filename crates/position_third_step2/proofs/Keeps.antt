@@ -12,14 +12,14 @@ use Rattle.labels.specs.declared.ControlSigns.{ControlSigns}
 use Rattle.profile.specs.declared.Profile.{Profile}
 use Rattle.profile.specs.declared.Checked.{Checked}
 use Rattle.labels.specs.declared.tests.Tests.{Tests}
-use Rattle.phases.specs.declared.limit.Band.{Band}
+use Rattle.limits.specs.declared.Band.{Band}
 use Rattle.row.specs.Row.{Nodes, Goal, Numbers}
 use Rattle.labels.specs.declared.Labels.{Labels}
 use Rattle.phases.specs.Run.{Step, run, yes!, no! }
 use Rattle.labels.specs.Tests.{testsOf}
-use Rattle.labels.specs.Jerks.{jerksOf}
+use Rattle.jerks.specs.Jerks.{jerksOf}
 use Rattle.phases.specs.Times.{sumStep, sumsOf, refusedOf}
-use Rattle.phases.specs.Limit.{bandOf}
+use Rattle.limits.specs.Limits.{bandOf}
 use Rattle.phases.specs.Phase.{nodeOf, phaseOf}
 use Rattle.profile.specs.Parts.{profileOf, nodesOf}
 use Rattle.profile.specs.Check.{checkOf}

@@ -10,18 +10,18 @@ use Rattle.labels.specs.declared.Labels.{Labels}
 use Rattle.labels.specs.declared.tests.Tests.{Tests}
 use Rattle.labels.specs.Labels.{labels}
 use Rattle.labels.specs.Tests.{testsOf}
-use Rattle.labels.specs.Jerks.{jerksOf}
+use Rattle.jerks.specs.Jerks.{jerksOf}
 use Rattle.row.specs.Row.{Nodes, Numbers, withSums, withJerks, withNodes}
-use Rattle.phases.specs.declared.limit.Band.{Band}
+use Rattle.limits.specs.declared.Band.{Band}
 use Rattle.phases.specs.Run.{Step, run}
 use Rattle.phases.specs.Times.{sumsOf, refusedOf}
-use Rattle.phases.specs.Limit.{directionOf, bandOf}
+use Rattle.limits.specs.Limits.{directionOf, bandOf, arrivedOf, keptOf}
 use Rattle.phases.specs.Phase.{phaseOf}
 use Rattle.phases.specs.Moved.{summedOf, movedOf}
 use Rattle.profile.specs.declared.Profile.{Profile}
 use Rattle.profile.specs.declared.Checked.{Checked}
 use Rattle.profile.specs.Parts.{profileOf, numbersOf, labelsOf}
-use Rattle.profile.specs.Check.{arrivedOf, keptOf, checkOf}
+use Rattle.profile.specs.Check.{checkOf}
 
 -- n₀ is what `check` is handed, n₁ what it has after the sums, n₂ after the jerks, n₃ after the phases
 module _ (signs : ControlSigns) (limits : ReachedLimits) (set-limits : Bool) (jf v-max v-min a-max a-min : Float)

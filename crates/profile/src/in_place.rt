@@ -1,86 +1,26 @@
 // `check` in place: over a profile's numbers in one lent row.
-use float::near;
+use jerks::jerks;
 use labels::ControlSigns;
 use labels::Labels;
 use labels::ReachedLimits;
-use labels::jerks::jerks;
 use labels::tests::tests_under;
-use phases::limit::Band;
-use phases::limit::direction;
-use phases::limit::widened;
+use limits::arrived;
+use limits::direction;
+use limits::kept;
+use limits::widened;
 use phases::nodes::nodes;
 use phases::times::refused;
 use phases::times::sums;
-use row::A;
-use row::AF;
 use row::NUMBERS;
-use row::P;
-use row::PF;
-use row::V;
-use row::VF;
 use row::set_jerks;
 use row::times;
 ghost use mathlib.Core.Path.{_≡_};
-ghost use Rattle.row.specs.Row.{numbersIn};
 ghost use Rattle.profile.specs.Parts.{profileIn, checkedIn};
-ghost use Rattle.profile.specs.Check.{arrivedOf, withinOf, keptOf, checkOf};
-
-const P_PRECISION: f64 = 1e-8;
-
-const V_PRECISION: f64 = 1e-8;
-
-const A_PRECISION: f64 = 1e-10;
-
-// Places of a row that `check` looks at: a[1] is A1.
-const A1: usize = A + 1;
-
-const A3: usize = A + 3;
-
-const A5: usize = A + 5;
-
-const A7: usize = A + 7;
-
-const V3: usize = V + 3;
-
-const V4: usize = V + 4;
-
-const V5: usize = V + 5;
-
-const V6: usize = V + 6;
-
-const V7: usize = V + 7;
-
-const P7: usize = P + 7;
+ghost use Rattle.profile.specs.Check.{checkOf};
 
 pub struct Verdict {
     pub ok: bool,
     pub labels: Labels,
-}
-
-fn within(x: f64, band: Band) -> bool
-    ensures { λ r. ⌜ r ≡ withinOf x band ⌝ }
-{
-    (x >= band.low) & (x <= band.upp)
-}
-
-fn arrived(x: &[f64; NUMBERS]) -> bool
-    ensures { λ r. ⌜ r ≡ arrivedOf (numbersIn (now (x .entry)) .nodes) (numbersIn (now (x .entry)) .goal) ⌝ }
-{
-    near(x[P7] - x[PF], P_PRECISION)
-        & near(x[V7] - x[VF], V_PRECISION)
-        & near(x[A7] - x[AF], A_PRECISION)
-}
-
-fn kept(x: &[f64; NUMBERS], a_band: Band, v_band: Band) -> bool
-    ensures { λ r. ⌜ r ≡ keptOf (numbersIn (now (x .entry)) .nodes) «a_band» «v_band» ⌝ }
-{
-    within(x[A1], a_band)
-        & within(x[A3], a_band)
-        & within(x[A5], a_band)
-        & within(x[V3], v_band)
-        & within(x[V4], v_band)
-        & within(x[V5], v_band)
-        & within(x[V6], v_band)
 }
 
 pub fn check(

@@ -13,12 +13,11 @@ use Rattle.float.specs.Ops.{_⊕_, _⊖_, #0, #1e-8, #1e-10, #1e-12}
 use Rattle.float.specs.Helpers.{absOf}
 use Rattle.labels.specs.declared.ReachedLimits.{ReachedLimits}
 use Rattle.labels.specs.declared.ControlSigns.{ControlSigns}
-use Rattle.labels.specs.declared.jerks.Sign.{Sign}
-use Rattle.labels.specs.declared.jerks.Sign.the-variants.{Plus, Zero, Minus}
+use Rattle.jerks.specs.declared.Sign.{Sign}
+use Rattle.jerks.specs.declared.Sign.the-variants.{Plus, Zero, Minus}
 use Rattle.profile.specs.declared.Profile.{Profile}
-use Rattle.labels.specs.Jerks.{patternOf, signedOf, jerkOf, jerksOf}
-use Rattle.phases.specs.Limit.{bandOf}
-use Rattle.profile.specs.Check.{arrivedOf, withinOf, keptOf}
+use Rattle.jerks.specs.Jerks.{patternOf, signedOf, jerkOf, jerksOf}
+use Rattle.limits.specs.Limits.{bandOf, arrivedOf, withinOf, keptOf}
 use Rattle.rounding.specs.Exact.{D, nought, signed, Size, Below, Same}
 use Rattle.rounding.specs.Value.{mag, sign, val, Finite, Number}
 use Rattle.rounding.specs.Motion.{lasts, elapsed}

@@ -16,15 +16,15 @@ use Rattle.labels.specs.declared.ControlSigns.the-variants.{UDDU}
 use Rattle.labels.specs.declared.Direction.the-variants.{UP}
 use Rattle.profile.specs.declared.Profile.{Profile}
 use Rattle.labels.specs.Tests.{testsOf}
-use Rattle.labels.specs.Jerks.{jerksOf}
+use Rattle.jerks.specs.Jerks.{jerksOf}
 use Rattle.phases.specs.Run.{run}
 use Rattle.phases.specs.Times.{sumStep, sumsOf, refusedOf}
-use Rattle.phases.specs.Limit.{bandOf}
+use Rattle.limits.specs.Limits.{bandOf, arrivedOf, keptOf}
 use Rattle.phases.specs.Phase.{replacedOf, zeroInsideOf, nodeOf, phaseOf}
 use Rattle.labels.specs.Labels.{labels}
 use Rattle.row.specs.Row.{withTimes, startOf}
 use Rattle.profile.specs.Parts.{profileOf}
-use Rattle.profile.specs.Check.{arrivedOf, keptOf, checkOf}
+use Rattle.profile.specs.Check.{checkOf}
 use Rattle.rounding.specs.Value.{unit, mag, sign, val, Number}
 use Rattle.rounding.specs.Motion.{motion, lasts}
 use Rattle.profile_arrives.specs.Reply.{time, Held, Within, Residual}

@@ -14,19 +14,19 @@ use Rattle.float.specs.Ops.{_⊕_, #0}
 use Rattle.labels.specs.declared.ReachedLimits.{ReachedLimits}
 use Rattle.labels.specs.declared.ControlSigns.{ControlSigns}
 use Rattle.labels.specs.declared.tests.Tests.{Tests}
-use Rattle.phases.specs.declared.limit.Band.{Band}
+use Rattle.limits.specs.declared.Band.{Band}
 use Rattle.profile.specs.declared.Profile.{Profile}
 use Rattle.profile.specs.declared.Checked.{Checked}
 use Rattle.labels.specs.Tests.{testsOf}
-use Rattle.labels.specs.Jerks.{jerksOf}
+use Rattle.jerks.specs.Jerks.{jerksOf}
 use Rattle.row.specs.Row.{Nodes, withSums, withJerks, withNodes}
 use Rattle.phases.specs.Run.{Step, run, yes!, no! }
 use Rattle.phases.specs.Times.{sumStep, sumsOf, refusedOf}
-use Rattle.phases.specs.Limit.{directionOf, bandOf}
+use Rattle.limits.specs.Limits.{directionOf, bandOf, arrivedOf, keptOf}
 use Rattle.phases.specs.Phase.{replacedOf, nodeOf, phaseOf}
 use Rattle.labels.specs.Labels.{labels}
 use Rattle.profile.specs.Parts.{profileOf, nodesOf, goalOf, numbersOf, labelsOf}
-use Rattle.profile.specs.Check.{arrivedOf, keptOf, checkOf}
+use Rattle.profile.specs.Check.{checkOf}
 use Rattle.rounding.specs.Step.{Node, stepOf}
 use Rattle.profile_arrives.specs.Reply.{time, jerk, node, Held}
 use Rattle.profile_arrives.proofs.Steps.{at, stored, Eight, Begins, each-yes, begins, follows}

@@ -13,11 +13,11 @@ use lib.Ieee.{Float, nan}
 use Rattle.float.specs.Ops.{#0}
 use Rattle.labels.specs.declared.ControlSigns.{ControlSigns}
 use Rattle.labels.specs.declared.ControlSigns.the-variants.{UDDU, UDUD}
-use Rattle.labels.specs.declared.jerks.Sign.{Sign}
-use Rattle.labels.specs.declared.jerks.Sign.the-variants.{Plus, Zero, Minus}
+use Rattle.jerks.specs.declared.Sign.{Sign}
+use Rattle.jerks.specs.declared.Sign.the-variants.{Plus, Zero, Minus}
 use Rattle.profile.specs.declared.Profile.{Profile}
 use Rattle.profile.specs.declared.Checked.{Checked}
-use Rattle.labels.specs.Jerks.{patternOf, jerkOf, jerksOf}
+use Rattle.jerks.specs.Jerks.{patternOf, jerkOf, jerksOf}
 use Rattle.rounding.specs.Exact.{_⊙_}
 use Rattle.rounding.specs.Value.{unit, val}
 use Rattle.rounding.specs.Motion.{motion, state, lasts, elapsed}

@@ -13,19 +13,19 @@ use lib.Ieee.{Float, nan}
 use Rattle.labels.specs.declared.ReachedLimits.{ReachedLimits}
 use Rattle.labels.specs.declared.ControlSigns.{ControlSigns}
 use Rattle.labels.specs.declared.tests.Tests.{Tests}
-use Rattle.phases.specs.declared.limit.Band.{Band}
+use Rattle.limits.specs.declared.Band.{Band}
 use Rattle.profile.specs.declared.Profile.{Profile}
 use Rattle.profile.specs.declared.Checked.{Checked}
 use Rattle.labels.specs.Tests.{testsOf}
-use Rattle.labels.specs.Jerks.{jerksOf}
+use Rattle.jerks.specs.Jerks.{jerksOf}
 use Rattle.row.specs.Row.{Nodes, withSums, withJerks, withNodes}
 use Rattle.phases.specs.Run.{Step, run}
 use Rattle.phases.specs.Times.{sumsOf, refusedOf}
-use Rattle.phases.specs.Limit.{directionOf, bandOf}
+use Rattle.limits.specs.Limits.{directionOf, bandOf, arrivedOf, keptOf}
 use Rattle.phases.specs.Phase.{replacedOf, zeroInsideOf, nodeOf, phaseOf}
 use Rattle.labels.specs.Labels.{labels}
 use Rattle.profile.specs.Parts.{profileOf, nodesOf, goalOf, numbersOf, labelsOf}
-use Rattle.profile.specs.Check.{arrivedOf, keptOf, checkOf}
+use Rattle.profile.specs.Check.{checkOf}
 use Rattle.rounding.specs.Step.{Node, stepOf}
 use Rattle.profile_arrives.specs.Reply.{jerk, node, Held}
 use Rattle.profile_arrives.proofs.Steps.{never, later, first, rest, at, stored, stays}

@@ -1,9 +1,9 @@
 -- `widened` is `bandOf`. Assumes nothing.
 use mathlib.Core.Path.{refl}
 use borrow.Author.Needs.{needs}
-use Rattle.phases.specs.Limit.{bandOf}
-use Rattle.phases.proofs.limit.widened.Statement.{statement}
-use Rattle.phases.proofs.limit.widened.Tie as tie
+use Rattle.limits.specs.Limits.{bandOf}
+use Rattle.limits.proofs.widened.Statement.{statement}
+use Rattle.limits.proofs.widened.Tie as tie
 
 returns : tie.Need-returns
 unfolding bandOf

@@ -1,6 +1,6 @@
 -- `direction` is `directionOf`. Assumes nothing.
-use Rattle.phases.proofs.limit.direction.Statement.{statement}
-use Rattle.phases.proofs.limit.direction.Tie as tie
+use Rattle.limits.proofs.direction.Statement.{statement}
+use Rattle.limits.proofs.direction.Tie as tie
 
 returns : tie.Need-returns
 returns c = rw (c .if1 .taken)

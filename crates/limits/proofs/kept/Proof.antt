@@ -2,9 +2,9 @@
 use native.Mathlib.Omega.{arith}
 use borrow.Author.Needs.{needs}
 use Rattle.row.proofs.Rows.{part-at}
-use Rattle.profile.specs.Check.{keptOf}
-use Rattle.profile.proofs.in_place.kept.Statement.{statement}
-use Rattle.profile.proofs.in_place.kept.Tie as tie
+use Rattle.limits.specs.Limits.{keptOf}
+use Rattle.limits.proofs.kept.Statement.{statement}
+use Rattle.limits.proofs.kept.Tie as tie
 
 returns : tie.Need-returns
 unfolding keptOf

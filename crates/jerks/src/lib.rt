@@ -1,9 +1,9 @@
 // The sign of the jerk in each phase, and the seven jerks.
-use super::ControlSigns;
-use super::signs_number;
 use float::pick;
+use labels::ControlSigns;
+use labels::signs_number;
 ghost use mathlib.Core.Path.{_≡_};
-ghost use Rattle.labels.specs.Jerks.{patternOf, signedOf, jerkOf, jerksOf};
+ghost use Rattle.jerks.specs.Jerks.{patternOf, signedOf, jerkOf, jerksOf};
 
 pub enum Sign {
     Plus,

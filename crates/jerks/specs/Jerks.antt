@@ -5,10 +5,10 @@ use Prim.Native.Nat.{ℕ}
 use lib.ListN.{getD}
 use lib.Ieee.{Float, nan, lt, neg}
 use Rattle.float.specs.Ops.{#0}
 use Rattle.labels.specs.declared.ControlSigns.{ControlSigns}
 use Rattle.labels.specs.declared.ControlSigns.the-variants.{UDDU, UDUD}
-use Rattle.labels.specs.declared.jerks.Sign.{Sign}
-use Rattle.labels.specs.declared.jerks.Sign.the-variants.{Plus, Zero, Minus}
+use Rattle.jerks.specs.declared.Sign.{Sign}
+use Rattle.jerks.specs.declared.Sign.the-variants.{Plus, Zero, Minus}
 
 abbrev pub patternOf : ControlSigns → List Sign
 patternOf UDDU = Plus ∷ Zero ∷ Minus ∷ Zero ∷ Minus ∷ Zero ∷ Plus ∷ []

@@ -1,7 +1,7 @@
 -- `signed` is `signedOf`, sign by sign. Assumes nothing.
 use borrow.Author.Needs.{needs}
-use Rattle.labels.proofs.jerks.signed.Statement.{statement}
-use Rattle.labels.proofs.jerks.signed.Tie as tie
+use Rattle.jerks.proofs.signed.Statement.{statement}
+use Rattle.jerks.proofs.signed.Tie as tie
 
 returns-3 : tie.Need-returns-3
 returns-3 c = rw (c .enum-told3 .given .1)

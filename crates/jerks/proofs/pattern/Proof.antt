@@ -4,12 +4,12 @@ use mathlib.Core.List.{[], _∷_}
 use mathlib.Core.Path.{_≡_, refl}
 use lib.ListN.{getD}
 use borrow.Author.Needs.{needs}
 use Rattle.labels.specs.declared.ControlSigns.the-variants.{UDDU, UDUD}
 use Rattle.labels.specs.Labels.{signsNumber}
-use Rattle.labels.specs.Jerks.{patternOf}
+use Rattle.jerks.specs.Jerks.{patternOf}
 use Rattle.labels.proofs.ByLabel.{by-signs}
-use Rattle.labels.proofs.jerks.pattern.Statement.{statement}
-use Rattle.labels.proofs.jerks.pattern.Tie as tie
+use Rattle.jerks.proofs.pattern.Statement.{statement}
+use Rattle.jerks.proofs.pattern.Tie as tie
 
 returns : tie.Need-returns
 returns c =

@@ -4,12 +4,12 @@ use mathlib.Core.Path.{_≡_, refl}
 use lib.ListN.{getD}
 use lib.Ieee.{Float, nan}
 use borrow.Author.Needs.{needs}
 use Rattle.labels.specs.declared.ControlSigns.{ControlSigns}
 use Rattle.labels.specs.declared.ControlSigns.the-variants.{UDDU, UDUD}
-use Rattle.labels.specs.declared.jerks.Sign.{Sign}
-use Rattle.labels.specs.Jerks.{patternOf, jerkOf, jerksOf}
-use Rattle.labels.proofs.jerks.jerks.Statement.{statement}
-use Rattle.labels.proofs.jerks.jerks.Tie as tie
+use Rattle.jerks.specs.declared.Sign.{Sign}
+use Rattle.jerks.specs.Jerks.{patternOf, jerkOf, jerksOf}
+use Rattle.jerks.proofs.jerks.Statement.{statement}
+use Rattle.jerks.proofs.jerks.Tie as tie
 
 -- the seven stored jerks, from what each call ensures
 module _ (t : List Float) (jf : Float) (d : Sign) (x0 x1 x2 x3 x4 x5 x6 : Float) where

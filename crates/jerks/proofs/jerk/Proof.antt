@@ -1,7 +1,7 @@
 -- `jerk` is `jerkOf`. Assumes nothing.
 use borrow.Author.Needs.{needs}
-use Rattle.labels.proofs.jerks.jerk.Statement.{statement}
-use Rattle.labels.proofs.jerks.jerk.Tie as tie
+use Rattle.jerks.proofs.jerk.Statement.{statement}
+use Rattle.jerks.proofs.jerk.Tie as tie
 
 returns : tie.Need-returns
 returns c = rw (c .pick .ensures, c .before .signed .ensures)

@@ -2,9 +2,9 @@
 use native.Mathlib.Omega.{arith}
 use borrow.Author.Needs.{needs}
 use Rattle.row.proofs.Rows.{part-at}
-use Rattle.profile.specs.Check.{arrivedOf}
-use Rattle.profile.proofs.in_place.arrived.Statement.{statement}
-use Rattle.profile.proofs.in_place.arrived.Tie as tie
+use Rattle.limits.specs.Limits.{arrivedOf}
+use Rattle.limits.proofs.arrived.Statement.{statement}
+use Rattle.limits.proofs.arrived.Tie as tie
 
 returns : tie.Need-returns
 unfolding arrivedOf
