@@ -1,3 +1,2 @@
--- What the proofs of this crate's functions share, and what other crates use of its shapes.
-pub mod Tries
+-- What other crates use of the shapes.
 pub mod Keeps

@@ -1,14 +1,12 @@
 -- The five shapes: the attempts that each makes, in their order, and what comes of them on a profile. Definitions only.
 use mathlib.Core.Bool.{cond}
-use mathlib.Core.List.{List, [], _∷_, _++_, map}
+use mathlib.Core.List.{List, [], _∷_, _++_}
 use lib.Ieee.{Float}
 use Rattle.float.specs.Ops.{#0}
 use Rattle.profile.specs.declared.Profile.{Profile}
 use Rattle.profile.specs.declared.Checked.{Checked}
 use Rattle.roots.specs.declared.RootAnswer.{RootAnswer}
 use Rattle.roots.specs.declared.RootAnswer.the-variants.{CubeRoot}
-use Rattle.positive_set.specs.Set.{sortedOf}
-use Rattle.roots.specs.Quartic.{polynomRootsOf}
 use Rattle.step2_solver.specs.declared.PositionThirdOrderStep2.{PositionThirdOrderStep2}
 use Rattle.step2_solver.specs.declared.Limits.{Limits}
 use Rattle.step2_solver.specs.declared.Trial.{Trial}
@@ -23,10 +21,7 @@ use Rattle.time_acc0_vel.specs.TimeAcc0Vel.{acc0VelTooShort}
 use Rattle.time_acc0_vel.specs.TimeAcc0Vel.{acc0VelUdduWindow, acc0VelUddu, acc0VelUdudWindow, acc0VelUdud}
 use Rattle.step2_quartics.specs.Quartics.{quarticsOf}
 use Rattle.step2_attempt.specs.Attempt.{triedOf}
-
--- an attempt at each root of a quartic, from the smallest on
-abbrev pub overRoots : (Float → Trial) → List Float → RootAnswer → List Trial
-overRoots attempt polynom answer = map attempt (sortedOf (polynomRootsOf polynom answer))
+use Rattle.step2_over_roots.specs.OverRoots.{overRoots}
 
 -- The Rust's attempts, in its order. q are UDDU's quartic and UDUD's, first and second what is answered for them.
 abbrev pub attemptsOf : Shape → PositionThirdOrderStep2 → Limits → Quartics → RootAnswer → RootAnswer → List Trial

@@ -2,12 +2,12 @@
 use crate::acc0::time_acc0;
 use crate::acc0_acc1::time_acc0_acc1;
 use crate::acc0_acc1_vel::time_acc0_acc1_vel;
-use crate::acc0_vel::time_acc0_vel;
-use crate::acc1_vel::time_acc1_vel;
 use labels::Labels;
 use profile::in_place::Verdict;
 use roots::RootAnswer;
 use row::NUMBERS;
+use step2_over_roots::acc0_vel::time_acc0_vel;
+use step2_over_roots::acc1_vel::time_acc1_vel;
 use step2_quartics::Quartics;
 use step2_solver::Limits;
 use step2_solver::PositionThirdOrderStep2;

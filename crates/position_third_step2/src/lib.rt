@@ -2,8 +2,6 @@
 mod acc0;
 mod acc0_acc1;
 mod acc0_acc1_vel;
-mod acc0_vel;
-mod acc1_vel;
 pub mod in_place;
 
 use in_place::ask;

@@ -25,7 +25,8 @@ use Rattle.step2_solver.specs.New.{solverOf, limitsOf}
 use Rattle.step2_quartics.specs.declared.Quartics.{Quartics}
 use Rattle.step2_quartics.specs.Quartics.{quarticsOf}
 use Rattle.time_acc0_vel.specs.TimeAcc0Vel.{acc0VelTooShort}
-use Rattle.position_third_step2.specs.Shape.{overRoots, attemptsOf, shapeOf}
+use Rattle.step2_over_roots.specs.OverRoots.{overRoots}
+use Rattle.position_third_step2.specs.Shape.{attemptsOf, shapeOf}
 use Rattle.step2_arrives.specs.Moves.{Numbers, asked, Starts, Demand3, Closely}
 use Rattle.step2_arrives.proofs.Made.{Made}
 use Rattle.step2_arrives.proofs.Sound.{Known, AlwaysSound, sound-tries}

@@ -1,5 +1,5 @@
 -- `time_acc0` in place makes its three trials in turn. Assumes nothing.
-use Rattle.position_third_step2.proofs.Tries.{yes!, no!, last}
+use Rattle.step2_attempt.proofs.Turns.{yes!, no!, last}
 use Rattle.position_third_step2.proofs.acc0.time_acc0.Statement.{statement}
 use Rattle.position_third_step2.proofs.acc0.time_acc0.Tie as tie
 

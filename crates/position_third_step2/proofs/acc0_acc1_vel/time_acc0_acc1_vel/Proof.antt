@@ -1,5 +1,5 @@
 -- `time_acc0_acc1_vel` in place makes its two trials in turn. Assumes nothing.
-use Rattle.position_third_step2.proofs.Tries.{yes!, no!, last}
+use Rattle.step2_attempt.proofs.Turns.{yes!, no!, last}
 use Rattle.position_third_step2.proofs.acc0_acc1_vel.time_acc0_acc1_vel.Statement.{statement}
 use Rattle.position_third_step2.proofs.acc0_acc1_vel.time_acc0_acc1_vel.Tie as tie
 

@@ -14,7 +14,7 @@ ghost use Rattle.profile.specs.Parts.{profileIn, checkedIn};
 ghost use Rattle.step2_attempt.specs.Attempt.{triedOf};
 ghost use Rattle.time_acc1_vel.specs.TimeAcc1Vel.{acc1VelUdduWindow, acc1VelUddu};
 ghost use Rattle.time_acc1_vel.specs.TimeAcc1Vel.{acc1VelUdudWindow, acc1VelUdud};
-ghost use Rattle.position_third_step2.specs.Shape.{overRoots};
+ghost use Rattle.step2_over_roots.specs.OverRoots.{overRoots};
 
 // Profile UDDU: the roots in their order of trial.
 fn uddu(

@@ -15,7 +15,7 @@ ghost use Rattle.profile.specs.Parts.{profileIn, checkedIn};
 ghost use Rattle.step2_attempt.specs.Attempt.{triedOf};
 ghost use Rattle.time_acc0_vel.specs.TimeAcc0Vel.{acc0VelTooShort, acc0VelUdduWindow, acc0VelUddu};
 ghost use Rattle.time_acc0_vel.specs.TimeAcc0Vel.{acc0VelUdudWindow, acc0VelUdud};
-ghost use Rattle.position_third_step2.specs.Shape.{overRoots};
+ghost use Rattle.step2_over_roots.specs.OverRoots.{overRoots};
 
 // Profile UDDU: the roots in their order of trial.
 fn uddu(

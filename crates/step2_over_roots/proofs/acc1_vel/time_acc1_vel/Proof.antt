@@ -1,7 +1,7 @@
 -- `time_acc1_vel` in place tries the roots of UDDU, then those of UDUD. Assumes nothing.
-use Rattle.position_third_step2.proofs.Tries.{first-yes, first-no}
-use Rattle.position_third_step2.proofs.acc1_vel.time_acc1_vel.Statement.{statement}
-use Rattle.position_third_step2.proofs.acc1_vel.time_acc1_vel.Tie as tie
+use Rattle.step2_attempt.proofs.Turns.{first-yes, first-no}
+use Rattle.step2_over_roots.proofs.acc1_vel.time_acc1_vel.Statement.{statement}
+use Rattle.step2_over_roots.proofs.acc1_vel.time_acc1_vel.Tie as tie
 
 returns : tie.Need-returns
 returns c = first-yes _ _ _ _ (c .before .uddu .ensures) (c .if1 .taken)

@@ -1,8 +1,8 @@
 -- `time_acc0_vel` in place tries the roots of UDDU, then those of UDUD, where tf is not too short. Assumes nothing.
 use Rattle.step2_attempt.specs.Attempt.{triedOf}
-use Rattle.position_third_step2.proofs.Tries.{first-yes, first-no}
-use Rattle.position_third_step2.proofs.acc0_vel.time_acc0_vel.Statement.{statement}
-use Rattle.position_third_step2.proofs.acc0_vel.time_acc0_vel.Tie as tie
+use Rattle.step2_attempt.proofs.Turns.{first-yes, first-no}
+use Rattle.step2_over_roots.proofs.acc0_vel.time_acc0_vel.Statement.{statement}
+use Rattle.step2_over_roots.proofs.acc0_vel.time_acc0_vel.Tie as tie
 
 returns : tie.Need-returns
 unfolding triedOf

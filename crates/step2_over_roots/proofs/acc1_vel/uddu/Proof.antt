@@ -1,16 +1,16 @@
--- The roots of UDDU's quartic in `time_acc0_vel`, tried in their order. Assumes nothing.
+-- The roots of UDDU's quartic in `time_acc1_vel`, tried in their order. Assumes nothing.
 use Prim.Native.Nat.{_-_}
 use native.Mathlib.Omega.{arith}
 use borrow.Author.Needs.{needs}
 use Rattle.profile.specs.Parts.{profileIn}
-use Rattle.time_acc0_vel.specs.TimeAcc0Vel.{acc0VelUddu}
-use Rattle.position_third_step2.proofs.Tries.{Rest, start, hit, miss, spent}
-use Rattle.position_third_step2.proofs.acc0_vel.uddu.Statement.{statement}
-use Rattle.position_third_step2.proofs.acc0_vel.uddu.Tie as tie
+use Rattle.time_acc1_vel.specs.TimeAcc1Vel.{acc1VelUddu}
+use Rattle.step2_over_roots.proofs.Roots.{Rest, start, hit, miss, spent}
+use Rattle.step2_over_roots.proofs.acc1_vel.uddu.Statement.{statement}
+use Rattle.step2_over_roots.proofs.acc1_vel.uddu.Tie as tie
 
 abbrev Inv-loop : tie.InvT-loop
 Inv-loop s l x₀ w count roots left₀ i₀ x left i =
-    Rest l (acc0VelUddu s l w) count roots (profileIn x₀ left₀) i (profileIn x left)
+    Rest l (acc1VelUddu s l w) count roots (profileIn x₀ left₀) i (profileIn x left)
 
 abbrev μ-loop : tie.MeasureT-loop
 μ-loop s l x₀ w count roots left₀ i₀ x left i = count - i

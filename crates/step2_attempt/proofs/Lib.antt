@@ -1,0 +1,2 @@
+-- Trials made in turn, for whoever makes them.
+pub mod Turns

@@ -1,0 +1,2 @@
+-- What the four loops over roots share.
+mod Roots
