@@ -10,6 +10,7 @@ use Rattle.line_frame.specs.Frame.{byteAt}
 use Rattle.line_questions.specs.Questions.{questions}
 use Rattle.line_answers.specs.FrameAnswer.{Answer, replyOf, repliedOf}
 
+-- Of the line's characters and of what the lent places hold: the questions in their order, then what byte 0's row asks.
 unfoldable pub answerOf : List ℕ → List ℕ → Answer
 answerOf line lent =
     let at = byteAt (bytesOf line) in
