@@ -1,4 +1,4 @@
-// The limits that `check` compares with, widened by V_EPS and A_EPS; and its tests at the end: the goal, and the limits.
+// The limits that `check` compares with, widened by V_EPS and A_EPS; and its tests at the end, of the goal and limits.
 use float::near;
 use float::pick;
 use labels::Direction;

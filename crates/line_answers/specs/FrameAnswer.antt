@@ -1,4 +1,4 @@
--- What a frame of the length of its kind is answered: a number, and what the lent places hold after it. Definitions only.
+-- What a frame of the length of its kind is answered: a number, and what the lent places then hold. Definitions only.
 use mathlib.Core.Bool.{Bool, cond}
 use mathlib.Core.List.{List, [], _∷_, _++_}
 use Prim.Native.Nat.{ℕ}
