@@ -13,7 +13,7 @@ use lib.Ieee.{binary64, ofBits}
 use borrow.Author.Tests.{le-ltb, lt-ltb, ltb-true, ltb-false}
 use Rattle.hex.specs.Hex.{Filled, isDigit, allDigits, valueOf, encodeOf}
 use Rattle.hex.proofs.Digits.{value-lt}
-use Rattle.digits.specs.Digits.{after, readOf}
+use Rattle.digits.specs.Digits.{valueAfter, readOf}
 
 -- ---- a place of a line
 module _ (line : List ℕ) (at : ℕ) where
@@ -35,7 +35,7 @@ module _ (line : List ℕ) (at : ℕ) where
     pub inside : at + 16 ≤ length line
     pub count : i ≤ 16
     pub small : word < 16 ^ i
-    pub bits : after word (drop i characters) ≡ after 0 characters
+    pub bits : valueAfter word (drop i characters) ≡ valueAfter 0 characters
     pub digits : ok && allDigits (drop i characters) ≡ allDigits characters
 
   pub start : at + 16 ≤ length line → Read-to true 0 0
@@ -71,7 +71,7 @@ module _ (line : List ℕ) (at : ℕ) where
           inside = r .inside;
           count = omega arith;
           small = small-next (r .small) (rw ev (value-lt c));
-          bits = rw ev (ap (after word) (sym (split h)) ∙ r .bits);
+          bits = rw ev (ap (valueAfter word) (sym (split h)) ∙ r .bits);
           digits =
               rw eo
               (and-assoc ok (isDigit c) (allDigits (drop (i + 1) characters))
@@ -92,8 +92,8 @@ module _ (line : List ℕ) (at : ℕ) where
         all : ok ≡ allDigits characters
         all = sym (and-true ok) ∙ ap (λ (l : List ℕ). ok && allDigits l) (sym none) ∙ r .digits
 
-        whole : word ≡ after 0 characters
-        whole = ap (after word) (sym none) ∙ r .bits
+        whole : word ≡ valueAfter 0 characters
+        whole = ap (valueAfter word) (sym none) ∙ r .bits
 
 pub written : (bytes is left lent : List ℕ) (ok : Bool) → bytes ≡ is
     → record { ok = ok; left = left } ≡ encodeOf bytes lent → left ≡ encodeOf is lent .left

@@ -9,9 +9,9 @@ use Rattle.hex.specs.Hex.{allDigits, valueOf}
 use Rattle.digits.specs.declared.Read.{Read}
 
 -- the number that digits stand for after those that stand for w, the highest first
-abbrev pub after : ℕ → List ℕ → ℕ
-after w [] = w
-after w (c ∷ cs) = after (16 * w + valueOf c) cs
+abbrev pub valueAfter : ℕ → List ℕ → ℕ
+valueAfter w [] = w
+valueAfter w (c ∷ cs) = valueAfter (16 * w + valueOf c) cs
 
 -- Whether the sixteen characters from a place on are digits, and the f64 whose bits they are.
 -- No, and 0, where they are fewer.
@@ -19,4 +19,4 @@ unfoldable pub readOf : List ℕ → ℕ → Read
 readOf line at =
     let cs = take 16 (drop at line) in
     cond (ltb (length line) (at + 16)) (record { ok = false; x = ofBits binary64 0 })
-    (record { ok = allDigits cs; x = ofBits binary64 (after 0 cs) })
+    (record { ok = allDigits cs; x = ofBits binary64 (valueAfter 0 cs) })

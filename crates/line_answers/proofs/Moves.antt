@@ -16,14 +16,14 @@ use Rattle.step2_solver.specs.declared.Shape.{Shape}
 use Rattle.step2_solver.specs.New.{solverOf, limitsOf}
 use Rattle.step2_quartics.specs.declared.Quartics.{Quartics}
 use Rattle.step2_quartics.specs.Quartics.{quarticsOf}
-use Rattle.position_third_step2.specs.Shape.{shapeOf}
+use Rattle.position_third_step2.specs.Shape.{shapeOf, fresh}
 use Rattle.line_kinds.specs.declared.Asks.the-variants.{OfShape, OfQuartics}
 use Rattle.line_kinds.specs.Kinds.{recordPlaces, quarticsPlaces}
 use Rattle.line_frame.specs.Frame.{Frame}
 use Rattle.line_frame.specs.Numbers.{moveFinite, moveOf, firstAnswerOf, secondAnswerOf}
 use Rattle.line_questions.specs.Questions.{ask, countsFit, countsSuit, quarticsAt, questionsOf}
 use Rattle.line_reply.specs.Reply.{replyBytesOf}
-use Rattle.line_answers.specs.ShapeLine.{startOf, shapeLineOf}
+use Rattle.line_answers.specs.ShapeLine.{shapeLineOf}
 use Rattle.line_answers.specs.QuarticLine.{quarticLineOf}
 use Rattle.line_answers.specs.FrameAnswer.{Answer, replyOf, ofShape, frameAnswerOf}
 use Rattle.line_answers.proofs.Replies.{refused, replied}
@@ -114,6 +114,6 @@ module _ (shape : Shape) (at : Frame) {x : Move} {s : PositionThirdOrderStep2} {
   quartics-are = rw (eq, el, es, ex)
 
   pub shape-is : {first second : RootAnswer} → first ≡ firstAnswerOf at → second ≡ secondAnswerOf at
-      → shapeOf shape s l q first second (startOf x) ≡ shapeLineOf shape at
+      → shapeOf shape s l q first second (fresh x) ≡ shapeLineOf shape at
   unfolding shapeLineOf
   shape-is ef ed = rw (ef, ed, eq, el, es, ex)

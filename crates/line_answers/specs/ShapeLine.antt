@@ -1,21 +1,14 @@
 -- Kinds 01 to 05: what a shape answers to a frame. Definitions only.
-use Rattle.profile.specs.declared.Profile.{Profile}
 use Rattle.profile.specs.declared.Checked.{Checked}
-use Rattle.profile.specs.Boundary.{defaultOf, boundaryOf}
-use Rattle.step2_solver.specs.declared.Move.{Move}
 use Rattle.step2_solver.specs.declared.Shape.{Shape}
 use Rattle.step2_solver.specs.New.{solverOf, limitsOf}
-use Rattle.position_third_step2.specs.Shape.{shapeOf}
+use Rattle.position_third_step2.specs.Shape.{shapeOf, fresh}
 use Rattle.line_frame.specs.Frame.{Frame}
 use Rattle.line_frame.specs.Numbers.{moveOf, firstAnswerOf, secondAnswerOf}
 use Rattle.line_questions.specs.Questions.{quarticsAt}
-
--- every line starts from a default profile after `set_boundary`
-abbrev pub startOf : Move → Profile
-startOf x = boundaryOf (x .p0) (x .v0) (x .a0) (x .pf) (x .vf) (x .af) defaultOf
 
 -- the shape is passed the same limits as `new`
 unfoldable pub shapeLineOf : Shape → Frame → Checked
 shapeLineOf shape at =
     let x = moveOf at in
-    shapeOf shape (solverOf x) (limitsOf x) (quarticsAt shape at) (firstAnswerOf at) (secondAnswerOf at) (startOf x)
+    shapeOf shape (solverOf x) (limitsOf x) (quarticsAt shape at) (firstAnswerOf at) (secondAnswerOf at) (fresh x)

@@ -25,13 +25,12 @@ ghost use mathlib.Core.Bool.{true, cond};
 ghost use Prim.Native.Nat.{_≤_};
 ghost use lib.ListN.{length};
 ghost use Rattle.hex.specs.Hex.{hexOf, fill};
-ghost use Rattle.position_third_step2.specs.Shape.{shapeOf};
+ghost use Rattle.position_third_step2.specs.Shape.{shapeOf, fresh};
 ghost use Rattle.line_kinds.specs.Kinds.{recordPlaces, quarticsPlaces};
 ghost use Rattle.line_frame.specs.Frame.{byteAt};
 ghost use Rattle.line_questions.specs.Questions.{countsFit};
 ghost use Rattle.line_reply.specs.Reply.{replyBytesOf};
 ghost use Rattle.line_answers.specs.QuarticLine.{bothBytes};
-ghost use Rattle.line_answers.specs.ShapeLine.{startOf};
 ghost use Rattle.line_answers.specs.FrameAnswer.{Answer, ofShape, frameAnswerOf};
 
 // The reply, of numbers that are read and worked out.
@@ -47,7 +46,7 @@ fn shape_reply(
 )
     requires { ⌜ recordPlaces ≤ length (now reply) ⌝ }
     ensures { λ _. ⌜ now (reply .exit)
-        ≡ fill (hexOf (replyBytesOf (shapeOf shape s l q first second (startOf x)))) (now (reply .entry)) ⌝ }
+        ≡ fill (hexOf (replyBytesOf (shapeOf shape s l q first second (fresh x)))) (now (reply .entry)) ⌝ }
 {
     let mut row = start(x.p0, x.v0, x.a0, x.pf, x.vf, x.af);
     let answer = ask(shape, s, l, q, first, second, &mut row, start_labels());

@@ -13,7 +13,8 @@ use Rattle.roots.specs.declared.RootAnswer.the-variants.{CubeRoot, Resolved}
 use Rattle.roots.proofs.Laws.{AnswerFits}
 use Rattle.profile.specs.declared.Checked.{Checked}
 use Rattle.step2_solver.specs.declared.Shape.{Shape}
-use Rattle.step2_arrives.specs.Moves.{Numbers, asked, fresh}
+use Rattle.position_third_step2.specs.Shape.{fresh}
+use Rattle.step2_arrives.specs.Moves.{MoveNumbers, asked}
 use Rattle.hex.specs.Hex.{bytesOf, hexOf}
 use Rattle.line_kinds.specs.declared.Asks.{Asks}
 use Rattle.line_kinds.specs.declared.Asks.the-variants.{OfShape}
@@ -40,7 +41,7 @@ number-at at h k l =
       finite = subst T (sym (each-finite at 1 12 h k l)) tt;
     }
 
-twelve : (at : Frame) → moveFinite at ≡ true → Numbers (moveOf at)
+twelve : (at : Frame) → moveFinite at ≡ true → MoveNumbers (moveOf at)
 unfolding moveOf
 twelve at h =
     record {
@@ -90,7 +91,7 @@ module _ (line lent : List ℕ) (zero : answerOf line lent .number ≡ 0) (k : A
       (k .asked)
       (frame-yes line lent zero)
 
-  pub numbers-are : Numbers (moveIn line)
+  pub numbers-are : MoveNumbers (moveIn line)
   unfolding questionsOf
   numbers-are = twelve at (asked-yes .1 .0)
 

@@ -15,7 +15,7 @@ use Rattle.rounding.specs.Motion.{Moving, perA, perV, perP, motion}
 use Rattle.rounding.specs.Step.{Node, from}
 use Rattle.profile_arrives.specs.Reply.{time, jerk, node, after, Within}
 use Rattle.profile_arrives.specs.Arrives.{Fraction, Distances, At}
-use Rattle.step2_arrives.specs.Moves.{Numbers, Starts, Close, Arrival}
+use Rattle.step2_arrives.specs.Moves.{MoveNumbers, Starts, Close, Arrival}
 use Rattle.line_arrives.specs.LineArrives.{moveIn, timeIn, jerkIn, stateAfter, duration, Sizes, VelocityKept}
 use Rattle.line_arrives.specs.LineArrives.{AccelerationKept, LineArrives}
 use Rattle.line_arrives.proofs.Agreeing.{Agree, motion-agrees, lasts-agrees}
@@ -55,7 +55,7 @@ module _ (line reply : List ℕ) {q : Profile} (s : Starts (moveIn line) q) (t :
       ∙ motion-agrees (from (record { a = moveIn line .a0; v = moveIn line .v0; p = moveIn line .p0 })) (suc i)
       (λ k h. t k (le-trans h l)) (λ k h. j k (le-trans h l))
 
-  module _ (n : Numbers (moveIn line)) (finite : (i : ℕ) → i < 7 → Finite (time q i) × Finite (jerk q i))
+  module _ (n : MoveNumbers (moveIn line)) (finite : (i : ℕ) → i < 7 → Finite (time q i) × Finite (jerk q i))
       {w : Distances} {f : Fraction} (a : Arrival w f (moveIn line) q) where
     moved : (P : Moving → Type 0) (i : ℕ) → i < 7 → P (after q i) → P (stateAfter line reply i)
     moved P i l h = subst P (after-is i l) h

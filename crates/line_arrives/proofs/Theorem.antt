@@ -12,7 +12,8 @@ use Rattle.profile_arrives.proofs.Facts.{yes-finite, held-jerk}
 use Rattle.profile_arrives.specs.Arrives.{Fraction, Distances}
 use Rattle.step2_solver.specs.declared.Move.{Move}
 use Rattle.step2_solver.specs.New.{solverOf, limitsOf}
-use Rattle.step2_arrives.specs.Moves.{fresh, Arrival}
+use Rattle.position_third_step2.specs.Shape.{fresh}
+use Rattle.step2_arrives.specs.Moves.{Arrival}
 use Rattle.step2_arrives.proofs.Made.{Made}
 use Rattle.step2_arrives.proofs.Arrives.{made-yes, made-starts, attempt-arrives, attempt-arrives-closely}
 use Rattle.step2_arrives.proofs.Shapes.{shape-made}

@@ -14,7 +14,7 @@ use Rattle.profile_arrives.specs.Reply.{upper, lower}
 use Rattle.profile_arrives.specs.Arrives.{Fraction, _over_, Distances, At, Between, demanded, proved}
 use Rattle.step2_solver.specs.declared.Move.{Move}
 use Rattle.step2_solver.specs.declared.Shape.{Shape}
-use Rattle.step2_arrives.specs.Moves.{Numbers, Close, in-time}
+use Rattle.step2_arrives.specs.Moves.{MoveNumbers, Close, in-time}
 use Rattle.step2_times.specs.Facts.{roundings, residual}
 use Rattle.hex.specs.Hex.{bytesOf}
 use Rattle.line_kinds.specs.declared.Asks.the-variants.{OfShape}
@@ -77,7 +77,7 @@ AccelerationKept f m X =
 
 -- `val` takes a NaN and an infinity for 0; the first two fields say that there is none.
 pub record LineArrives (w : Distances) (s : Fraction) (line reply : List ℕ) : Type 0 where
-  pub numbers : Numbers (moveIn line)
+  pub numbers : MoveNumbers (moveIn line)
   pub phases-finite : (i : ℕ) → i < 7 → Finite (timeIn reply i) × Finite (jerkIn reply i)
   pub position : At (w .position) perP (stateAfter line reply 6 .p) (moveIn line .pf)
   pub velocity : At (w .velocity) perV (stateAfter line reply 6 .v) (moveIn line .vf)

@@ -11,6 +11,7 @@ use Rattle.profile.specs.Parts.{numbersOf}
 use Rattle.profile.specs.Boundary.{defaultOf, boundaryOf}
 use Rattle.step2_solver.specs.declared.Shape.{Shape}
 use Rattle.step2_solver.specs.New.{solverOf, limitsOf}
+use Rattle.position_third_step2.specs.Shape.{fresh}
 use Rattle.position_third_step2.proofs.Keeps.{Lengths, check-keeps, shape-keeps}
 use Rattle.line_kinds.specs.declared.Asks.{Asks}
 use Rattle.line_kinds.specs.declared.Asks.the-variants.{NoKind, OfCheck, OfShape, OfQuartics}
@@ -21,7 +22,7 @@ use Rattle.line_questions.specs.Questions.{quarticsAt}
 use Rattle.line_reply.specs.Reply.{numbersBytes, headOf, rowsOf, replyBytesOf, quarticBytesOf}
 use Rattle.line_reply.proofs.Rows.{length-numbers}
 use Rattle.line_answers.specs.CheckLine.{checkedOf, checkLineOf}
-use Rattle.line_answers.specs.ShapeLine.{startOf, shapeLineOf}
+use Rattle.line_answers.specs.ShapeLine.{shapeLineOf}
 use Rattle.line_answers.specs.QuarticLine.{bothBytes, quarticLineOf}
 use Rattle.line_answers.specs.FrameAnswer.{replyOf}
 use Rattle.line_places.proofs.Bytes.{Bytes, reply-bytes, quartics-bytes}
@@ -51,7 +52,7 @@ shape-lengths : (shape : Shape) (at : Frame) → Lengths (shapeLineOf shape at .
 unfolding shapeLineOf
 shape-lengths shape at =
     let x = moveOf at in
-    shape-keeps shape (solverOf x) (limitsOf x) (quarticsAt shape at) (firstAnswerOf at) (secondAnswerOf at) (startOf x)
+    shape-keeps shape (solverOf x) (limitsOf x) (quarticsAt shape at) (firstAnswerOf at) (secondAnswerOf at) (fresh x)
     (fresh-lengths _ _ _ _ _ _)
     .lengths
 

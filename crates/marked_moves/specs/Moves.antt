@@ -62,8 +62,8 @@ answered frame = answerOf (hexOf frame) (replicate replyMost 0)
 
 -- Kind 00, with set_limits 0: the start is at rest in 0 but for a0, jf is 1, af is 0, the limits are plus and minus v
 -- and a.
-abbrev asked : (signs label : ℕ) (t : List Float) (a0 pf vf v a : Float) → Answer
-asked signs label t a0 pf vf v a =
+abbrev checked : (signs label : ℕ) (t : List Float) (a0 pf vf v a : Float) → Answer
+checked signs label t a0 pf vf v a =
     answered
     (0x00 ∷ signs ∷ label ∷ 0 ∷ numbersBytes (t ++ (#0 ∷ #0 ∷ a0 ∷ pf ∷ vf ∷ #0 ∷ #1 ∷ v ∷ neg v ∷ a ∷ neg a ∷ [])))
 
@@ -102,10 +102,10 @@ ones = #1 ∷ #1 ∷ #1 ∷ #1 ∷ #1 ∷ #1 ∷ #1 ∷ []
 
 -- UDDU, limits 9, all else 0
 abbrev at-rest : (label : ℕ) (t : List Float) (a0 : Float) → Answer
-at-rest label t a0 = asked UDDU label t a0 #0 #0 #9 #9
+at-rest label t a0 = checked UDDU label t a0 #0 #0 #9 #9
 
 abbrev there : (signs : ℕ) (pf vf v a : Float) → Answer
-there signs pf vf v a = asked signs None every-other #0 pf vf v a
+there signs pf vf v a = checked signs None every-other #0 pf vf v a
 
 -- ---- replies: the line is accepted, and the verdict's byte is 1 or 0
 abbrev says : ℕ → Answer → Bool

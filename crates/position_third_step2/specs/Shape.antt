@@ -5,9 +5,11 @@ use lib.Ieee.{Float}
 use Rattle.float.specs.Ops.{#0}
 use Rattle.profile.specs.declared.Profile.{Profile}
 use Rattle.profile.specs.declared.Checked.{Checked}
+use Rattle.profile.specs.Boundary.{defaultOf, boundaryOf}
 use Rattle.roots.specs.declared.RootAnswer.{RootAnswer}
 use Rattle.roots.specs.declared.RootAnswer.the-variants.{CubeRoot}
 use Rattle.step2_solver.specs.declared.PositionThirdOrderStep2.{PositionThirdOrderStep2}
+use Rattle.step2_solver.specs.declared.Move.{Move}
 use Rattle.step2_solver.specs.declared.Limits.{Limits}
 use Rattle.step2_solver.specs.declared.Trial.{Trial}
 use Rattle.step2_solver.specs.declared.Shape.{Shape}
@@ -43,6 +45,10 @@ shapeOf shape s l q first second = triedOf l (attemptsOf shape s l q first secon
 -- a shape, with its own quartics
 abbrev pub askedOf : Shape → PositionThirdOrderStep2 → Limits → RootAnswer → RootAnswer → Profile → Checked
 askedOf shape s l first second = shapeOf shape s l (quarticsOf shape s l) first second
+
+-- the profile that every line starts from: a default one after `set_boundary`
+abbrev pub fresh : Move → Profile
+fresh x = boundaryOf (x .p0) (x .v0) (x .a0) (x .pf) (x .vf) (x .af) defaultOf
 
 -- stands for the answers of a shape that looks at none
 abbrev pub unasked : RootAnswer

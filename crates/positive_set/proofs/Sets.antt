@@ -12,7 +12,7 @@ use lib.Ieee.{Float, nan, lt, le}
 use borrow.Author.Tests.{ltb-true}
 use Rattle.float.specs.Ops.{#0}
 use Rattle.positive_set.specs.declared.PositiveSet.{PositiveSet}
-use Rattle.positive_set.specs.Set.{heldOf, placesOf, holds, insertOf, insertAllOf, intoOf, sortedOf}
+use Rattle.positive_set.specs.Set.{heldOf, setOf, holds, insertOf, insertAllOf, intoOf, sortedOf}
 
 -- ---- a list of four numbers by its elements
 module _ (P : List Float → Type 0) (p : (a b c d : Float) → P (a ∷ b ∷ c ∷ d ∷ [])) where
@@ -52,18 +52,18 @@ held s four =
     beyond n r = omega (arith, r .0 .0 .0 .1, r .0 .0 .1, r .0 .1, r .1)
 
 -- ---- a set and the list that it holds
-pub held-places : (l : List Float) → length l ≤ 4 → heldOf (placesOf l) ≡ l
-held-places l h = rw (take-take, take-append-seam)
+pub held-set : (l : List Float) → length l ≤ 4 → heldOf (setOf l) ≡ l
+held-set l h = rw (take-take, take-append-seam)
 
 -- the set's first two or three places, where it holds so many
-pub two : (l : List Float) → length l ≡ 2 → getD (placesOf l .«data») 0 nan ∷ getD (placesOf l .«data») 1 nan ∷ [] ≡ l
+pub two : (l : List Float) → length l ≡ 2 → getD (setOf l .«data») 0 nan ∷ getD (setOf l .«data») 1 nan ∷ [] ≡ l
 two [] h = absurd (omega arith)
 two (a ∷ []) h = absurd (omega arith)
 two (a ∷ b ∷ []) h = refl
 two (a ∷ b ∷ c ∷ l) h = absurd (omega arith)
 
 pub three : (l : List Float) → length l ≡ 3
-    → getD (placesOf l .«data») 0 nan ∷ getD (placesOf l .«data») 1 nan ∷ getD (placesOf l .«data») 2 nan ∷ [] ≡ l
+    → getD (setOf l .«data») 0 nan ∷ getD (setOf l .«data») 1 nan ∷ getD (setOf l .«data») 2 nan ∷ [] ≡ l
 three [] h = absurd (omega arith)
 three (a ∷ []) h = absurd (omega arith)
 three (a ∷ b ∷ []) h = absurd (omega arith)
@@ -87,9 +87,9 @@ pub insert-length : (l : List Float) (v : Float) → length l ≤ 4 → length (
 insert-length l v h = insert-cases (λ k. length k ≤ 4) l v (λ t r. simp length-append (omega arith)) h
 
 -- what `insert` promises, of a set whose list is known
-pub inserted : {s r : PositiveSet} (l : List Float) (v : Float) → length l ≤ 4 → s ≡ placesOf l
-    → r ≡ placesOf (insertOf (heldOf s) v) → r ≡ placesOf (insertOf l v)
-inserted {s} {r} l v h e f = f ∙ ap (λ k. placesOf (insertOf k v)) (ap heldOf e ∙ held-places l h)
+pub inserted : {s r : PositiveSet} (l : List Float) (v : Float) → length l ≤ 4 → s ≡ setOf l
+    → r ≡ setOf (insertOf (heldOf s) v) → r ≡ setOf (insertOf l v)
+inserted {s} {r} l v h e f = f ∙ ap (λ k. setOf (insertOf k v)) (ap heldOf e ∙ held-set l h)
 
 -- a full set stays
 pub stays : (a b c d v : Float) → insertOf (a ∷ b ∷ c ∷ d ∷ []) v ≡ a ∷ b ∷ c ∷ d ∷ []

@@ -14,8 +14,8 @@ abbrev pub heldOf : PositiveSet → List Float
 heldOf s = take (s .len) (s .«data»)
 
 -- The set that holds the numbers of a list, four at most: one place each, and +0 in the places that are free.
-abbrev pub placesOf : List Float → PositiveSet
-placesOf l = record { «data» = take 4 (l ++ (#0 ∷ #0 ∷ #0 ∷ #0 ∷ [])); len = length l }
+abbrev pub setOf : List Float → PositiveSet
+setOf l = record { «data» = take 4 (l ++ (#0 ∷ #0 ∷ #0 ∷ #0 ∷ [])); len = length l }
 
 -- Whether v equals one of the numbers, as IEEE 754 compares: 0 and -0 are equal.
 unfoldable pub holds : List Float → Float → Bool

@@ -19,7 +19,7 @@ use Rattle.rounding.proofs.Literals.{mag-1e-8, mag-1e-10, mag-1e-12}
 use Rattle.profile.specs.declared.Profile.{Profile}
 use Rattle.rounding.specs.Motion.{perA, perV, perP}
 use Rattle.rounding.specs.Run.{offA, offV, offP}
-use Rattle.profile_arrives.specs.Arrives.{Fraction, part, At, Between, Distances, Arrives, demanded, proved}
+use Rattle.profile_arrives.specs.Arrives.{Fraction, tolerance, At, Between, Distances, Arrives, demanded, proved}
 use Rattle.profile_arrives.specs.Reply.{after, upper, lower}
 
 -- ---- the tolerances of `check` are 1e-8, 1e-10 and 1e-12 within 2 ^ -53 of themselves
@@ -98,7 +98,7 @@ module _ (K : ℕ) (x : Float) (X : D) (c : ℕ) (o : Off (K * unit) (K ⊙ val 
   -- x - f, rounded, is a tolerance M at most
   pub lands : (f : Float) (M q C : ℕ) → T (fits binary64 x) → T (fits binary64 f) → Finite (x ⊖ f)
       → Size (val (x ⊖ f)) M
-      → M * (q * 2 ^ 53) ≤ (2 ^ 53 + 1) * unit → T (leb 2 q) → c + 1 + 1 ≤ C → At (part q C) K X f
+      → M * (q * 2 ^ 53) ≤ (2 ^ 53 + 1) * unit → T (leb 2 q) → c + 1 + 1 ≤ C → At (tolerance q C) K X f
   lands f M q C fx ff h s m z l =
       let d = difference-near x f M fx ff h s in
       let e = le-trans (d .2) (once M unit (at-most-one M q (2 ^ 53) unit (leb→le 2 q z) (lit≤ tt) m)) in
@@ -198,7 +198,7 @@ module _ (f g : Fraction) (w : Narrower f g) where
 
 -- ---- the distances that are proved are within those that are demanded
 narrow : (k c C : ℕ) (f : Fraction) → c ≤ C → T (leb 1 k) → T (leb ((2 ^ 53 + k * C) * f .d) (f .m * (k * 2 ^ 53)))
-    → Narrower (part k c) f
+    → Narrower (tolerance k c) f
 narrow k c C f h z l = (
   mul-pos (leb→le 1 k z) (pow-pos 53),
   le-trans

@@ -16,7 +16,7 @@ use Rattle.rounding.proofs.Literals.{val-1e-12, number-1e-12}
 use Rattle.rounding.proofs.Limits.{limit-above, limit-below}
 use Rattle.rounding.proofs.Phase.{Sizes}
 use Rattle.rounding.proofs.Run.{recorded, recorded-sizes}
-use Rattle.profile_arrives.specs.Arrives.{part, At, Between, proved}
+use Rattle.profile_arrives.specs.Arrives.{tolerance, At, Between, proved}
 use Rattle.profile_arrives.proofs.Facts.{Close, Inside}
 use Rattle.profile_arrives.proofs.Distances.{fine-1e-8, fine-1e-10, fine-1e-12, at-most-one, lands, not-over}
 use Rattle.profile_arrives.proofs.Distances.{not-under}
@@ -26,7 +26,7 @@ module _ (K : ℕ) {x : Float} {X : D} {c R : ℕ} (C : ℕ) (o : Off (K * unit)
     (few : T (leb (2 * R) (2 ^ 53)))
     (k : c + (R + 1) + 1 ≤ C) where
   between : (low upp : Float) → Number low → Number upp → Inside low x upp
-      → Between (part 1_000_000_000_000 C) K low X upp
+      → Between (tolerance 1_000_000_000_000 C) K low X upp
   between low upp u w h =
       let M = mag #1e-12 in
       let small = at-most-one M 1_000_000_000_000 (2 ^ 53) unit (lit≤ tt) (lit≤ tt) fine-1e-12 in
@@ -48,7 +48,7 @@ fits-in c d e C h = omega arith
 -- ---- one recorded number at the goal, within the tolerance e of 1 / q
 landed : (K : ℕ) {x : Float} {X : D} {c R : ℕ} (e : Float) (q : ℕ) → Off (K * unit) (K ⊙ val x) X c → Sized unit x R
     → mag e * (q * 2 ^ 53) ≤ (2 ^ 53 + 1) * unit → T (leb 2 q) → (f : Float) → T (fits binary64 f) → Close x f e
-    → At (part q (c + 2)) K X f
+    → At (tolerance q (c + 2)) K X f
 landed K {x} {X} {c} e q o z m l f g h =
     lands K x X c o f (mag e) q (c + 2) (z .held) g (h .0) (h .1) m l (fits-in c 1 1 2 refl)
 

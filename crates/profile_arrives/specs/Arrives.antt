@@ -67,9 +67,9 @@ demanded =
       acceleration-limit = 1 over 10_000_000_000;
     }
 
--- 1 / k and c times 2 ^ -53 more
-abbrev pub part : ℕ → ℕ → Fraction
-part k c = (2 ^ 53 + k * c) over (k * 2 ^ 53)
+-- `check`'s tolerance 1 / k, and c times 2 ^ -53 more
+abbrev pub tolerance : ℕ → ℕ → Fraction
+tolerance k c = (2 ^ 53 + k * c) over (k * 2 ^ 53)
 
 -- What is proved, where the residual of a[3] is r: `check`'s own tolerance, 1e-8, 1e-10 or 1e-12, and the rounding
 -- errors, which are multiples of 2 ^ -53.
@@ -78,9 +78,9 @@ part k c = (2 ^ 53 + k * c) over (k * 2 ^ 53)
 abbrev pub proved : ℕ → Distances
 proved r =
     record {
-      position = part 100_000_000 (offP r + 2);
-      velocity = part 100_000_000 (offV r + 2);
-      acceleration = part 10_000_000_000 (offA r + 2);
-      velocity-limit = part 1_000_000_000_000 (offV r + 4171);
-      acceleration-limit = part 1_000_000_000_000 (offA r + 523);
+      position = tolerance 100_000_000 (offP r + 2);
+      velocity = tolerance 100_000_000 (offV r + 2);
+      acceleration = tolerance 10_000_000_000 (offA r + 2);
+      velocity-limit = tolerance 1_000_000_000_000 (offV r + 4171);
+      acceleration-limit = tolerance 1_000_000_000_000 (offA r + 523);
     }

@@ -10,7 +10,7 @@ ghost use mathlib.Core.List.{List, []};
 ghost use Prim.Native.Nat.{_≤_};
 ghost use lib.ListN.{length};
 ghost use lib.Ieee.{Float};
-ghost use Rattle.positive_set.specs.Set.{placesOf, insertAllOf, sortedOf};
+ghost use Rattle.positive_set.specs.Set.{setOf, insertAllOf, sortedOf};
 ghost use Rattle.roots.specs.Quartic.{smallOf, needOf, needNumber, resolventOf, chosenOf, largerOf, factorsOf};
 ghost use Rattle.roots.specs.Quartic.{quadraticOf, withoutCdOf, withCbrtOf, resolvedOf, rootsOf, polynomRootsOf};
 
@@ -151,8 +151,8 @@ fn factor(a: f64, b: f64, c: f64, d: f64, y: f64) -> Factors
 
 // The roots of x^2 + p x + q go into the set; a discriminant below eps in size counts as 0.
 fn insert_quadratic(roots: PositiveSet, p: f64, q: f64, eps: f64) -> PositiveSet
-    ensures { λ r. ⌜ ((l : List Float) → length l ≤ 4 → roots ≡ placesOf l
-        → r ≡ placesOf (insertAllOf l (quadraticOf eps p q))) ⌝ }
+    ensures { λ r. ⌜ ((l : List Float) → length l ≤ 4 → roots ≡ setOf l
+        → r ≡ setOf (insertAllOf l (quadraticOf eps p q))) ⌝ }
 {
     let d_ = p * p - 4.0 * q;
     if near(d_, eps) {
@@ -169,21 +169,21 @@ fn insert_quadratic(roots: PositiveSet, p: f64, q: f64, eps: f64) -> PositiveSet
 
 // c and d count as 0: x^2 (x^2 + a x + b).
 fn solve_without_cd(a: f64, b: f64) -> PositiveSet
-    ensures { λ r. ⌜ r ≡ placesOf (insertAllOf [] (withoutCdOf a b)) ⌝ }
+    ensures { λ r. ⌜ r ≡ setOf (insertAllOf [] (withoutCdOf a b)) ⌝ }
 {
     insert_quadratic(PositiveSet::new().insert(0.0), a, b, EPSILON)
 }
 
 // Only c is left: x (x^3 + c).
 fn solve_with_cbrt(cbrt: f64) -> PositiveSet
-    ensures { λ r. ⌜ r ≡ placesOf (insertAllOf [] (withCbrtOf cbrt)) ⌝ }
+    ensures { λ r. ⌜ r ≡ setOf (insertAllOf [] (withCbrtOf cbrt)) ⌝ }
 {
     PositiveSet::new().insert(0.0).insert(-cbrt)
 }
 
 // By the resolvent's roots.
 fn solve_resolved(a: f64, b: f64, c: f64, d: f64, number_zeroes: u8, x3: Three) -> PositiveSet
-    ensures { λ r. ⌜ r ≡ placesOf (insertAllOf [] (resolvedOf a b c d «number_zeroes» x3)) ⌝ }
+    ensures { λ r. ⌜ r ≡ setOf (insertAllOf [] (resolvedOf a b c d «number_zeroes» x3)) ⌝ }
 {
     let f = factor(a, b, c, d, chosen(number_zeroes, x3));
     let roots = insert_quadratic(PositiveSet::new(), f.p1, f.q1, EPS_M_BY_16);
@@ -191,7 +191,7 @@ fn solve_resolved(a: f64, b: f64, c: f64, d: f64, number_zeroes: u8, x3: Three) 
 }
 
 fn solve_quart_monic_coeffs(a: f64, b: f64, c: f64, d: f64, answer: RootAnswer) -> PositiveSet
-    ensures { λ r. ⌜ r ≡ placesOf (rootsOf a b c d answer) ⌝ }
+    ensures { λ r. ⌜ r ≡ setOf (rootsOf a b c d answer) ⌝ }
 {
     match quartic_need(a, b, c, d) {
         Need::Nothing => solve_without_cd(a, b),
@@ -216,14 +216,14 @@ fn solve_quart_monic_coeffs(a: f64, b: f64, c: f64, d: f64, answer: RootAnswer) 
 // The roots that are not negative, in the order in which they were found.
 // An answer that does not suit the need gives none.
 pub fn solve_quart_monic_arr(polynom: [f64; 4], answer: RootAnswer) -> PositiveSet
-    ensures { λ r. ⌜ r ≡ placesOf (polynomRootsOf polynom answer) ⌝ }
+    ensures { λ r. ⌜ r ≡ setOf (polynomRootsOf polynom answer) ⌝ }
 {
     solve_quart_monic_coeffs(polynom[0], polynom[1], polynom[2], polynom[3], answer)
 }
 
 // The same roots in the order in which the shapes try them, from the smallest on.
 pub fn sorted_roots(polynom: [f64; 4], answer: RootAnswer) -> PositiveSet
-    ensures { λ r. ⌜ r ≡ placesOf (sortedOf (polynomRootsOf polynom answer)) ⌝ }
+    ensures { λ r. ⌜ r ≡ setOf (sortedOf (polynomRootsOf polynom answer)) ⌝ }
 {
     solve_quart_monic_arr(polynom, answer).sorted()
 }

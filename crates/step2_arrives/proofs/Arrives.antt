@@ -32,8 +32,9 @@ use Rattle.profile_arrives.proofs.Distances.{Narrowed, wider}
 use Rattle.profile_arrives.proofs.CheckArrives.{at-most, check-recorded, check-arrives-closely}
 use Rattle.step2_solver.specs.declared.Move.{Move}
 use Rattle.step2_times.specs.Facts.{Accepted, roundings, Lasts, Jerks, residual}
-use Rattle.step2_attempt.specs.Attempt.{timesOf}
-use Rattle.step2_arrives.specs.Moves.{Numbers, Starts, Close, in-place, in-time, Demand3, Closely}
+use Rattle.step2_attempt.specs.Attempt.{sevenOf}
+use Rattle.step2_arrives.specs.Moves.{MoveNumbers, Starts, Close, in-place, in-time}
+use Rattle.step2_arrives.specs.Moves.{ArrivesDemanded, ArrivesClosely}
 use Rattle.step2_arrives.proofs.Made.{Made, starts-left}
 use Rattle.step2_arrives.proofs.Sound.{AlwaysSound}
 
@@ -85,7 +86,7 @@ module _ {m : Move} {q : Profile} (d : Made m q) where
   pub made-starts : Starts m q
   made-starts = starts-left (made-yes .carried) (d .starts)
 
-  time-is : (i : ℕ) → time q i ≡ getD (timesOf (d .times)) i nan
+  time-is : (i : ℕ) → time q i ≡ getD (sevenOf (d .times)) i nan
   time-is i = ap (λ (t : List Float). getD t i nan) (made-yes .carried .t-is ∙ d .times-are)
 
   jerk-at : (i : ℕ) → i < 7 → (s : Sign) → getD (patternOf (d .signs)) i Zero ≡ s
@@ -138,7 +139,7 @@ module _ {m : Move} {q : Profile} (d : Made m q) where
         (sym (ap (λ (n : Node). n .a) (made-starts .start)))
         (d .timed .replaced z (time q) made-accepted (jerk q) (node q 0 .p) (node q 0 .v) made-jerks)
 
-    module _ (n : Numbers m) where
+    module _ (n : MoveNumbers m) where
       -- ---- every recorded number is near the exact motion's
       pub made-recorded : (i : ℕ) → i ≤ 7 → Recorded residual (node q i) (exact q i)
       made-recorded =
@@ -158,7 +159,7 @@ module _ {m : Move} {q : Profile} (d : Made m q) where
           residual (lit≤ tt) (subst (λ (z : Profile). Within z) (d .left) w)
           (subst (λ (z : Profile). Residual residual (d .limits) z) (d .left) made-residual))
 
-      pub attempt-arrives-closely : Closely m q
+      pub attempt-arrives-closely : ArrivesClosely m q
       attempt-arrives-closely =
           record {
             starts = made-starts;
@@ -166,7 +167,7 @@ module _ {m : Move} {q : Profile} (d : Made m q) where
             duration = close made-lasts (record { m = roundings; d = 2 ^ 53 }) (made-lasts .bound);
           }
 
-      pub attempt-arrives : Demand3 m q
+      pub attempt-arrives : ArrivesDemanded m q
       attempt-arrives =
           record {
             starts = made-starts;
@@ -180,10 +181,10 @@ module _ {m : Move} {q : Profile} (d : Made m q) where
           }
 
 -- ---- and of whatever is made of attempts: a shape, or any other choice among them
-module _ {m : Move} (n : Numbers m) {f : Profile → Checked} (h : AlwaysSound m f) (q : Profile) (s : Starts m q)
+module _ {m : Move} (n : MoveNumbers m) {f : Profile → Checked} (h : AlwaysSound m f) (q : Profile) (s : Starts m q)
     (accepted : f q .ok ≡ true) where
-  pub sound-arrives : Within (f q .profile) → Demand3 m (f q .profile)
+  pub sound-arrives : Within (f q .profile) → ArrivesDemanded m (f q .profile)
   sound-arrives w = attempt-arrives (h q s .made accepted) w n
 
-  pub sound-arrives-closely : Within (f q .profile) → Closely m (f q .profile)
+  pub sound-arrives-closely : Within (f q .profile) → ArrivesClosely m (f q .profile)
   sound-arrives-closely w = attempt-arrives-closely (h q s .made accepted) w n

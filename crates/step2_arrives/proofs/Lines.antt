@@ -13,10 +13,11 @@ use Rattle.roots.specs.declared.RootAnswer.{RootAnswer}
 use Rattle.roots.proofs.Laws.{AnswerFits}
 use Rattle.step2_solver.specs.declared.Move.{Move}
 use Rattle.step2_solver.specs.declared.Shape.{Shape}
-use Rattle.step2_arrives.specs.Moves.{Numbers, asked, Starts, fresh, Demand3}
+use Rattle.position_third_step2.specs.Shape.{fresh}
+use Rattle.step2_arrives.specs.Moves.{MoveNumbers, asked, Starts, ArrivesDemanded}
 use Rattle.step2_arrives.proofs.Shapes.{shape-arrives}
 
-pub fresh-starts : {m : Move} → Numbers m → Starts m (fresh m)
+pub fresh-starts : {m : Move} → MoveNumbers m → Starts m (fresh m)
 unfolding boundaryOf
 fresh-starts {m} n =
     let none = ofBits-fits binary64 0 in
@@ -43,7 +44,7 @@ fresh-starts {m} n =
 
 -- demand 3, of what a shape leaves in the profile of a line
 pub line-arrives : (shape : Shape) (first second : RootAnswer) → AnswerFits first → AnswerFits second → {m : Move}
-    → Numbers m → asked shape first second m (fresh m) .ok ≡ true
+    → MoveNumbers m → asked shape first second m (fresh m) .ok ≡ true
     → Within (asked shape first second m (fresh m) .profile)
-    → Demand3 m (asked shape first second m (fresh m) .profile)
+    → ArrivesDemanded m (asked shape first second m (fresh m) .profile)
 line-arrives shape first second f g {m} n = shape-arrives shape first second f g n (fresh m) (fresh-starts n)

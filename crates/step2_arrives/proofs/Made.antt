@@ -22,7 +22,7 @@ use Rattle.step2_solver.specs.declared.Times.{Times}
 use Rattle.step2_times.specs.Facts.{Accepted, Lasts, Jerks, residual, Replaces}
 use Rattle.row.specs.Row.{withTimes}
 use Rattle.profile.specs.Parts.{changed}
-use Rattle.step2_attempt.specs.Attempt.{timesOf}
+use Rattle.step2_attempt.specs.Attempt.{sevenOf}
 use Rattle.step2_arrives.specs.Moves.{StartOf, Starts}
 
 pub record TimesFit (x : Times) : Type 0 where
@@ -58,7 +58,7 @@ pub record Made (m : Move) (q : Profile) : Type 0 where
   pub jf : Float
   pub before : Profile
   pub starts : Starts m before
-  pub times-are : before .t ≡ timesOf times
+  pub times-are : before .t ≡ sevenOf times
   pub timed : Timed limits (m .tf) (m .a0) jf times
   pub held-jf : T (fits binary64 jf)
   pub said : checkOf signs limits false jf (m .«v_max») (m .«v_min») (m .«a_max») (m .«a_min») before .ok ≡ true
@@ -67,7 +67,7 @@ pub record Made (m : Move) (q : Profile) : Type 0 where
 -- ---- start and goal stay
 module _ {m : Move} where
   pub starts-with-times : (x : Times) (q : Profile) → TimesFit x → Starts m q
-      → Starts m (changed (withTimes (timesOf x)) q)
+      → Starts m (changed (withTimes (sevenOf x)) q)
   starts-with-times x q f s =
       let h = s .held in
       record {
@@ -77,7 +77,7 @@ module _ {m : Move} where
               eight-v = h .eight-v;
               eight-p = h .eight-p;
               held-t =
-                  by-seven (λ (i : ℕ). T (fits binary64 (time (changed (withTimes (timesOf x)) q) i))) (f .t0) (f .t1)
+                  by-seven (λ (i : ℕ). T (fits binary64 (time (changed (withTimes (sevenOf x)) q) i))) (f .t0) (f .t1)
                   (f .t2)
                   (f .t3)
                   (f .t4) (f .t5) (f .t6);

@@ -1,8 +1,8 @@
 -- Demand 3. For every shape, whatever the quartics and the root answers hold, a yes is a move that arrives: the seven
 -- times and jerks of the record carry the exact motion from the start to the goal, in the duration and within the
 -- limits. The solver and the record share one start (`Starts`), as they do for every line; the twelve numbers are
--- finite (`Numbers`); and of the size of the move no more is asked than the demand does (`Within`). The attempts come
--- down to one theorem about `check`, in crates/profile_arrives, and to eleven facts about times, in
+-- finite (`MoveNumbers`); and of the size of the move no more is asked than the demand does (`Within`). The attempts
+-- come down to one theorem about `check`, in crates/profile_arrives, and to eleven facts about times, in
 -- crates/step2_times. Assumes nothing.
 use mathlib.Core.Path.{_≡_}
 use mathlib.Core.Bool.{Bool, true, false, cond}
@@ -27,7 +27,7 @@ use Rattle.step2_quartics.specs.Quartics.{quarticsOf}
 use Rattle.time_acc0_vel.specs.TimeAcc0Vel.{acc0VelTooShort}
 use Rattle.step2_over_roots.specs.OverRoots.{overRoots}
 use Rattle.position_third_step2.specs.Shape.{attemptsOf, shapeOf}
-use Rattle.step2_arrives.specs.Moves.{Numbers, asked, Starts, Demand3, Closely}
+use Rattle.step2_arrives.specs.Moves.{MoveNumbers, asked, Starts, ArrivesDemanded, ArrivesClosely}
 use Rattle.step2_arrives.proofs.Made.{Made}
 use Rattle.step2_arrives.proofs.Sound.{Known, AlwaysSound, sound-tries}
 use Rattle.step2_arrives.proofs.Arrives.{sound-arrives, sound-arrives-closely}
@@ -63,7 +63,7 @@ unless : (m : Move) (b : Bool) (ks : List Trial) → Every (Known m) ks → Ever
 unless m true ks h = tt
 unless m false ks h = h
 
-module _ {m : Move} (n : Numbers m) (first second : RootAnswer) (f : AnswerFits first) (g : AnswerFits second) where
+module _ {m : Move} (n : MoveNumbers m) (first second : RootAnswer) (f : AnswerFits first) (g : AnswerFits second) where
   attempts-known : (shape : Shape) (q : Quartics)
       → Every (Known m) (attemptsOf shape (solverOf m) (limitsOf m) q first second)
   attempts-known Acc0Acc1Vel q = (acc0-acc1-vel-uddu-known n, (acc0-acc1-vel-udud-known n, tt))
@@ -77,7 +77,7 @@ module _ {m : Move} (n : Numbers m) (first second : RootAnswer) (f : AnswerFits 
 
 -- ---- every shape, with quartics of any coefficients
 module _ (shape : Shape) (quartics : Quartics) (first second : RootAnswer) (f : AnswerFits first)
-    (g : AnswerFits second) {m : Move} (n : Numbers m) where
+    (g : AnswerFits second) {m : Move} (n : MoveNumbers m) where
   abbrev of-m : Profile → Checked
   of-m = shapeOf shape (solverOf m) (limitsOf m) quartics first second
 
@@ -97,15 +97,15 @@ module _ (shape : Shape) (quartics : Quartics) (first second : RootAnswer) (f : 
       any-made = any-sound q s .made accepted
 
       -- the theorem
-      pub any-arrives : Within (of-m q .profile) → Demand3 m (of-m q .profile)
+      pub any-arrives : Within (of-m q .profile) → ArrivesDemanded m (of-m q .profile)
       any-arrives = sound-arrives n any-sound q s accepted
 
-      pub any-arrives-closely : Within (of-m q .profile) → Closely m (of-m q .profile)
+      pub any-arrives-closely : Within (of-m q .profile) → ArrivesClosely m (of-m q .profile)
       any-arrives-closely = sound-arrives-closely n any-sound q s accepted
 
 -- ---- with its own
 module _ (shape : Shape) (first second : RootAnswer) (f : AnswerFits first) (g : AnswerFits second)
-    {m : Move} (n : Numbers m) (q : Profile) (s : Starts m q) where
+    {m : Move} (n : MoveNumbers m) (q : Profile) (s : Starts m q) where
   abbrev own : Quartics
   own = quarticsOf shape (solverOf m) (limitsOf m)
 
@@ -117,9 +117,9 @@ module _ (shape : Shape) (first second : RootAnswer) (f : AnswerFits first) (g :
     shape-made = any-made shape own first second f g n q s accepted
 
     pub shape-arrives : Within (asked shape first second m q .profile)
-        → Demand3 m (asked shape first second m q .profile)
+        → ArrivesDemanded m (asked shape first second m q .profile)
     shape-arrives = any-arrives shape own first second f g n q s accepted
 
     pub shape-arrives-closely : Within (asked shape first second m q .profile)
-        → Closely m (asked shape first second m q .profile)
+        → ArrivesClosely m (asked shape first second m q .profile)
     shape-arrives-closely = any-arrives-closely shape own first second f g n q s accepted

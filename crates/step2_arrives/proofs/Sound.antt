@@ -18,7 +18,7 @@ use Rattle.step2_solver.specs.New.{limitsOf}
 use Rattle.step2_solver.specs.Trials.{trialOf, noTrial}
 use Rattle.row.specs.Row.{withTimes}
 use Rattle.profile.specs.Parts.{changed}
-use Rattle.step2_attempt.specs.Attempt.{timesOf, attemptOf, nothing, tryOf, triedOf}
+use Rattle.step2_attempt.specs.Attempt.{sevenOf, attemptOf, nothing, tryOf, triedOf}
 use Rattle.step2_arrives.specs.Moves.{Starts}
 use Rattle.step2_arrives.proofs.Made.{Timed, Made, starts-with-times, starts-left}
 
@@ -65,7 +65,7 @@ module _ {m : Move} where
         starts =
             starts-left
             (check-carries (k .signs) (k .label) (k .jf) (m .«v_max») (m .«v_min») (m .«a_max») (m .«a_min»)
-            (changed (withTimes (timesOf (k .times))) q) (b .held) false)
+            (changed (withTimes (sevenOf (k .times))) q) (b .held) false)
             b;
         made = λ e.
             record {
@@ -73,7 +73,7 @@ module _ {m : Move} where
               limits = k .label;
               times = k .times;
               jf = k .jf;
-              before = changed (withTimes (timesOf (k .times))) q;
+              before = changed (withTimes (sevenOf (k .times))) q;
               starts = b;
               times-are = refl;
               timed = h .timed z;

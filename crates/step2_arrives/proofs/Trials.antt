@@ -38,16 +38,16 @@ use Rattle.time_acc1_vel.specs.TimeAcc1Vel.{acc1VelUdduNewton, acc1VelUdduH1, a
 use Rattle.time_acc1_vel.specs.TimeAcc1Vel.{acc1VelUddu, acc1VelUdud, acc1VelUdduTimes, acc1VelUdudTimes}
 use Rattle.time_acc0_vel.specs.TimeAcc0Vel.{acc0VelUdduNewton, acc0VelUdduH1, acc0VelUdudNewton, acc0VelUdudH1}
 use Rattle.time_acc0_vel.specs.TimeAcc0Vel.{acc0VelUddu, acc0VelUdud, acc0VelUdduTimes, acc0VelUdudTimes}
-use Rattle.step2_times.specs.Facts.{Numbers as SixNumbers}
+use Rattle.step2_times.specs.Facts.{FormulaNumbers}
 use Rattle.step2_times.proofs.Facts.{acc0-acc1-vel-uddu, acc0-acc1-vel-udud, acc1-vel-uddu, acc1-vel-udud}
 use Rattle.step2_times.proofs.Facts.{acc0-vel-uddu, acc0-vel-udud, acc0-acc1-rest, acc0-acc1-uddu, acc0-first}
 use Rattle.step2_times.proofs.Facts.{acc0-second, acc0-third}
 use Rattle.step2_attempt.specs.Attempt.{tryOf}
-use Rattle.step2_arrives.specs.Moves.{Numbers}
+use Rattle.step2_arrives.specs.Moves.{MoveNumbers}
 use Rattle.step2_arrives.proofs.Sound.{Known, known, none-known, known-cond, AlwaysSound, sound-try}
 use Rattle.step2_arrives.proofs.Made.{Timed, replacing, leaving}
 
-module _ {m : Move} (n : Numbers m) where
+module _ {m : Move} (n : MoveNumbers m) where
   abbrev s : PositionThirdOrderStep2
   s = solverOf m
 
@@ -64,7 +64,7 @@ module _ {m : Move} (n : Numbers m) where
   j-max = m .«j_max»
 
   -- ---- what the facts of the times ask, and a trial with the jerk j_max
-  numbers : SixNumbers (m .tf) (m .a0) (m .af) a-max a-min j-max
+  numbers : FormulaNumbers (m .tf) (m .a0) (m .af) a-max a-min j-max
   numbers =
       record {
         of-tf = n .of-tf;

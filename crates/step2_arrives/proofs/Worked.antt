@@ -29,7 +29,8 @@ use Rattle.step2_solver.specs.declared.Shape.the-variants.{Acc0Acc1Vel}
 use Rattle.time_acc0_acc1_vel.specs.TimeAcc0Acc1Vel.{acc0Acc1VelUdduApplies, acc0Acc1VelUdduRadicand, acc0Acc1VelUdduH1}
 use Rattle.time_acc0_acc1_vel.specs.TimeAcc0Acc1Vel.{acc0Acc1VelUdduT1, acc0Acc1VelUdduTimes, acc0Acc1VelUddu}
 use Rattle.step2_attempt.specs.Attempt.{attemptOf, tryOf, triedOf}
-use Rattle.step2_arrives.specs.Moves.{Numbers, asked, fresh, Demand3}
+use Rattle.position_third_step2.specs.Shape.{fresh}
+use Rattle.step2_arrives.specs.Moves.{MoveNumbers, asked, ArrivesDemanded}
 use Rattle.step2_arrives.proofs.Lines.{line-arrives}
 
 abbrev seven : Float
@@ -60,7 +61,7 @@ abbrev left : Profile
 left = asked Acc0Acc1Vel none none move (fresh move) .profile
 
 -- all of it computes
-met : (asked Acc0Acc1Vel none none move (fresh move) .ok ≡ true) × Within left × Numbers move
+met : (asked Acc0Acc1Vel none none move (fresh move) .ok ≡ true) × Within left × MoveNumbers move
 unfolding triedOf tryOf acc0Acc1VelUddu acc0Acc1VelUdduApplies acc0Acc1VelUdduRadicand acc0Acc1VelUdduH1
     acc0Acc1VelUdduT1 acc0Acc1VelUdduTimes newOf attemptOf boundaryOf checkOf sumsOf sumStep run refusedOf testsOf
     jerksOf phaseOf nodeOf replacedOf zeroInsideOf integrateOf bandOf arrivedOf keptOf absOf sqrtOf ofBits neg add sub
@@ -85,5 +86,5 @@ met = (
   },
 )
 
-pub move-arrives : Demand3 move left
+pub move-arrives : ArrivesDemanded move left
 move-arrives = line-arrives Acc0Acc1Vel none none (met .2 .of-p0 .held) (met .2 .of-p0 .held) (met .2) (met .0) (met .1)

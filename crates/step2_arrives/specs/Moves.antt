@@ -5,7 +5,6 @@ use Prim.Native.Nat.{_*_, _^_}
 use lib.Ieee.{Float}
 use Rattle.profile.specs.declared.Profile.{Profile}
 use Rattle.profile.specs.declared.Checked.{Checked}
-use Rattle.profile.specs.Boundary.{defaultOf, boundaryOf}
 use Rattle.rounding.specs.Exact.{D, Near, _⊙_}
 use Rattle.rounding.specs.Value.{unit, val, Number}
 use Rattle.rounding.specs.Motion.{lasts}
@@ -20,7 +19,7 @@ use Rattle.step2_times.specs.Facts.{roundings, residual}
 use Rattle.position_third_step2.specs.Shape.{askedOf}
 
 -- each is a finite f64: document 01's sixth question
-pub record Numbers (m : Move) : Type 0 where
+pub record MoveNumbers (m : Move) : Type 0 where
   pub of-tf : Number (m .tf)
   pub of-p0 : Number (m .p0)
   pub of-v0 : Number (m .v0)
@@ -50,10 +49,6 @@ pub record Starts (m : Move) (q : Profile) : Type 0 where
   pub vf-is : q .vf ≡ m .vf
   pub af-is : q .af ≡ m .af
 
--- so does the profile of every line: a default one after `set_boundary`
-abbrev pub fresh : Move → Profile
-fresh m = boundaryOf (m .p0) (m .v0) (m .a0) (m .pf) (m .vf) (m .af) defaultOf
-
 -- The exact number X is within f of the float x, both in units: |d X - d x| ≤ m.
 abbrev pub Close : Fraction → D → Float → Type 0
 Close f X x = Near (f .d ⊙ X) (f .d ⊙ val x) (f .m * unit)
@@ -72,11 +67,11 @@ in-place = demanded
 abbrev pub in-time : Fraction
 in-time = 1 over 10_000_000_000
 
-abbrev pub Demand3 : Move → Profile → Type 0
-Demand3 m q = Arrival in-place in-time m q
+abbrev pub ArrivesDemanded : Move → Profile → Type 0
+ArrivesDemanded m q = Arrival in-place in-time m q
 
 -- What is proved: `check`'s own tolerances and the rounding errors. That is 1.04e-8 of the position, 1.003e-8 of the
 -- velocity, 1.02e-10 of the acceleration, 2.9e-11 of the velocity limits and 2.8e-12 of the acceleration limits; and
 -- 1.2e-13 seconds.
-abbrev pub Closely : Move → Profile → Type 0
-Closely m q = Arrival (proved residual) (roundings over 2 ^ 53) m q
+abbrev pub ArrivesClosely : Move → Profile → Type 0
+ArrivesClosely m q = Arrival (proved residual) (roundings over 2 ^ 53) m q

@@ -14,23 +14,23 @@ assoc : (b : Bool) (x : Profile) (f g : Profile → Checked)
 assoc true x f g = refl
 assoc false x f g = refl
 
-after : (l : Limits) (xs ys : List Trial) (q : Profile)
+in-turn : (l : Limits) (xs ys : List Trial) (q : Profile)
     → orElse (triedOf l xs q) (triedOf l ys) ≡ triedOf l (xs ++ ys) q
 unfolding triedOf
-after l [] ys q = refl
-after l (k ∷ xs) ys q =
+in-turn l [] ys q = refl
+in-turn l (k ∷ xs) ys q =
     let c = tryOf l k q in
     assoc (c .ok) (c .profile) (triedOf l xs) (triedOf l ys)
-    ∙ ap (λ (f : Profile → Checked). orElse c f) (fun-ext (after l xs ys))
+    ∙ ap (λ (f : Profile → Checked). orElse c f) (fun-ext (in-turn l xs ys))
 
 -- the first ones get a yes; or a no, and the others go on with the record that it left
 pub first-yes : (l : Limits) (xs ys : List Trial) (q : Profile) {c : Checked}
     → c ≡ triedOf l xs q → c .ok ≡ true → c ≡ triedOf l (xs ++ ys) q
-first-yes l xs ys q e y = rw (← after l xs ys q, ← e, y)
+first-yes l xs ys q e y = rw (← in-turn l xs ys q, ← e, y)
 
 pub first-no : (l : Limits) (xs ys : List Trial) (q : Profile) {c d : Checked}
     → c ≡ triedOf l xs q → c .ok ≡ false → d ≡ triedOf l ys (c .profile) → d ≡ triedOf l (xs ++ ys) q
-first-no l xs ys q e y h = rw (← after l xs ys q, ← e, y) h
+first-no l xs ys q e y h = rw (← in-turn l xs ys q, ← e, y) h
 
 -- the same for one trial, k' as it was worked out; and for the last one
 module _ (l : Limits) (ks : List Trial) (q : Profile) {k k' : Trial} {c : Checked} (is : k' ≡ k)

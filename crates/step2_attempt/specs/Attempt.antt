@@ -12,14 +12,14 @@ use Rattle.step2_solver.specs.declared.Limits.{Limits}
 use Rattle.step2_solver.specs.declared.Times.{Times}
 use Rattle.step2_solver.specs.declared.Trial.{Trial}
 
-abbrev pub timesOf : Times → List Float
-timesOf x = x .t0 ∷ x .t1 ∷ x .t2 ∷ x .t3 ∷ x .t4 ∷ x .t5 ∷ x .t6 ∷ []
+abbrev pub sevenOf : Times → List Float
+sevenOf x = x .t0 ∷ x .t1 ∷ x .t2 ∷ x .t3 ∷ x .t4 ∷ x .t5 ∷ x .t6 ∷ []
 
 -- `check_with_timing` after profile.t is set
 unfoldable pub attemptOf : Limits → Trial → Profile → Checked
 attemptOf l k q =
     checkOf (k .signs) (k .label) false (k .jf) (l .«v_max») (l .«v_min») (l .«a_max») (l .«a_min»)
-    (changed (withTimes (timesOf (k .times))) q)
+    (changed (withTimes (sevenOf (k .times))) q)
 
 -- no attempt
 abbrev pub nothing : Profile → Checked

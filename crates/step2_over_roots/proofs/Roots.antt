@@ -13,9 +13,9 @@ use Rattle.profile.specs.declared.Profile.{Profile}
 use Rattle.profile.specs.declared.Checked.{Checked}
 use Rattle.positive_set.specs.declared.PositiveSet.{PositiveSet}
 use Rattle.roots.specs.declared.RootAnswer.{RootAnswer}
-use Rattle.positive_set.specs.Set.{heldOf, placesOf, sortedOf}
+use Rattle.positive_set.specs.Set.{heldOf, setOf, sortedOf}
 use Rattle.roots.specs.Quartic.{polynomRootsOf}
-use Rattle.positive_set.proofs.Sets.{held-places, sorted-length}
+use Rattle.positive_set.proofs.Sets.{held-set, sorted-length}
 use Rattle.roots.proofs.Laws.{roots-length}
 use Rattle.step2_solver.specs.declared.Limits.{Limits}
 use Rattle.step2_solver.specs.declared.Trial.{Trial}
@@ -37,7 +37,7 @@ few p answer =
     (roots-length (getD p 0 nan) (getD p 1 nan) (getD p 2 nan) (getD p 3 nan) answer)
 
 module _ (p : List Float) (answer : RootAnswer) {set : PositiveSet}
-    (e : set ≡ placesOf (sortedOf (polynomRootsOf p answer))) where
+    (e : set ≡ setOf (sortedOf (polynomRootsOf p answer))) where
   -- before the first root
   pub start : {l : Limits} {f : Float → Trial} {q : Profile} → Rest l f (set .len) (set .«data») q 0 q
   start =
@@ -48,7 +48,7 @@ module _ (p : List Float) (answer : RootAnswer) {set : PositiveSet}
         same = refl;
       }
     where
-      enough : (l : List Float) → length l ≤ 4 → length l ≤ length (placesOf l .«data»)
+      enough : (l : List Float) → length l ≤ 4 → length l ≤ length (setOf l .«data»)
       enough l h = simp (length-take, length-append) (omega arith)
 
   module _ {l : Limits} {f : Float → Trial} {q₀ q : Profile} {i : ℕ}
@@ -58,7 +58,7 @@ module _ (p : List Float) (answer : RootAnswer) {set : PositiveSet}
     whole =
         r .same
         ∙ ap (λ (xs : List Float). triedOf l (map f xs) q₀)
-        (ap heldOf e ∙ held-places (sortedOf (polynomRootsOf p answer)) (few p answer))
+        (ap heldOf e ∙ held-set (sortedOf (polynomRootsOf p answer)) (few p answer))
 
     full : length (heldOf set) ≡ set .len
     full = length-take-le (set .len) (set .«data») (r .fits)

@@ -22,7 +22,7 @@ use Rattle.time_acc0_acc1.specs.TimeAcc0Acc1.{acc0Acc1RestApplies, acc0Acc1Rest
 use Rattle.time_acc0.specs.TimeAcc0.{acc0FirstTimes, acc0SecondTimes, acc0ThirdTimes}
 use Rattle.time_acc1_vel.specs.TimeAcc1Vel.{acc1VelUdduTimes, acc1VelUdudTimes}
 use Rattle.time_acc0_vel.specs.TimeAcc0Vel.{acc0VelUdduTimes, acc0VelUdudTimes}
-use Rattle.step2_times.specs.Facts.{Numbers, Accepted, Lasts, Replaces}
+use Rattle.step2_times.specs.Facts.{FormulaNumbers, Accepted, Lasts, Replaces}
 use Rattle.step2_times.proofs.Within.{within, more, more'}
 use Rattle.step2_times.proofs.Less.{acc0-acc1-vel-uddu-lasts, acc0-acc1-vel-udud-lasts, acc0-acc1-rest-lasts}
 use Rattle.step2_times.proofs.Less.{acc0-acc1-uddu-lasts, acc0-second-lasts, acc0-third-lasts}
@@ -47,7 +47,8 @@ jf-finite tf p0 v0 a0 pf vf af a-max a-min j-max jf h =
     (sub-finite c (#2 ⊗ (b ⊖ jf ⊗ vd))
     (div-finite (c ⊖ #2 ⊗ (b ⊖ jf ⊗ vd)) (#2 ⊗ (a-max ⊖ a-min) ⊗ jf) h) .1) .1) .1) .0
 
-module _ (tf p0 v0 a0 pf vf af a-max a-min j-max : Float) (n : Numbers tf a0 af a-max a-min j-max) {t : ℕ → Float} where
+module _ (tf p0 v0 a0 pf vf af a-max a-min j-max : Float) (n : FormulaNumbers tf a0 af a-max a-min j-max)
+    {t : ℕ → Float} where
   -- t[0] is (-a0 + a_max) / j_max and t[2] is a_max / j_max: the first and the third shape
   up-down : {x : Times} → Accepted t x → Lasts t tf → t 0 ≡ (neg a0 ⊕ a-max) ⊘ j-max → t 2 ≡ a-max ⊘ j-max
       → Replaces t tf a0 j-max

@@ -20,11 +20,12 @@ use Rattle.step2_solver.specs.New.{newOf}
 use Rattle.time_acc1_vel.specs.TimeAcc1Vel.{acc1VelUdduTimes, acc1VelUdudTimes}
 use Rattle.time_acc0_vel.specs.TimeAcc0Vel.{acc0VelUdduTimes, acc0VelUdudTimes}
 use Rattle.time_acc0.specs.TimeAcc0.{acc0FirstTimes}
-use Rattle.step2_times.specs.Facts.{Numbers, Accepted, Lasts}
+use Rattle.step2_times.specs.Facts.{FormulaNumbers, Accepted, Lasts}
 use Rattle.step2_times.proofs.Turned.{Turned, turned, unturned}
 use Rattle.step2_times.proofs.Within.{sum, within, lasts-of, zero-none, more, more', twice-less}
 
-module _ (tf p0 v0 a0 pf vf af a-max a-min j : Float) (n : Numbers tf a0 af a-max a-min j) {t : ℕ → Float} where
+module _ (tf p0 v0 a0 pf vf af a-max a-min j : Float) (n : FormulaNumbers tf a0 af a-max a-min j)
+    {t : ℕ → Float} where
   -- ---- `time_acc1_vel`: t[2] is r + a0 / j in either order, t[3] is tf + y3 - 2 r, t[4] is c / j, t[5] is d / j and
   -- t[6] is t[4] + y6
   acc1-vel-lasts : (r t2 m y3 c d y6 : Float) {by3 by6 : D → D} {X C E : D} → Turned (m ⊘ j) y3 by3

@@ -13,7 +13,7 @@ use Rattle.rounding.specs.Step.{Replaced}
 use Rattle.step2_solver.specs.declared.Times.{Times}
 
 -- the numbers of a line that the time formulas name themselves: finite, as its sixth question asks
-pub record Numbers (tf a0 af a-max a-min j-max : Float) : Type 0 where
+pub record FormulaNumbers (tf a0 af a-max a-min j-max : Float) : Type 0 where
   pub of-tf : Number tf
   pub of-a0 : Number a0
   pub of-af : Number af

@@ -4,7 +4,7 @@ use mathlib.Core.Path.{_≡_, sym, ap, _∙_}
 use mathlib.Core.List.{List, [], _++_}
 use lib.Ieee.{Float}
 use Rattle.float.specs.Ops.{#16ε}
-use Rattle.positive_set.specs.Set.{placesOf, insertAllOf}
+use Rattle.positive_set.specs.Set.{setOf, insertAllOf}
 use Rattle.roots.specs.declared.Three.{Three}
 use Rattle.roots.specs.declared.Factors.{Factors}
 use Rattle.roots.specs.Quartic.{chosenOf, factorsOf, quadraticOf, resolvedOf}
@@ -29,8 +29,8 @@ returns c =
     let a = c .before .before .before .before .before .args in
     c .insert-quadratic2 .ensures (insertAllOf [] u) (insertAll-length u [] zero-le)
     (c .before .insert-quadratic .ensures [] zero-le (c .before .before .new .ensures))
-    ∙ ap placesOf (sym (insertAll-append u v []))
-    ∙ ap (λ l. placesOf (insertAllOf [] l))
+    ∙ ap setOf (sym (insertAll-append u v []))
+    ∙ ap (λ l. setOf (insertAllOf [] l))
     (by-factors (a .a) (a .b) (a .c) (a .d) (a .number-zeroes) (a .x3)
     (c .before .before .before .before .chosen .ensures) (c .before .before .before .factor .ensures))
 
