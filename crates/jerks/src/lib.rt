@@ -1,8 +1,8 @@
 // The sign of the jerk in each phase, and the seven jerks.
 use float::pick;
 use labels::ControlSigns;
-use labels::signs_number;
 ghost use mathlib.Core.Path.{_≡_};
+ghost use Rattle.labels.specs.Labels.{signsNumber};
 ghost use Rattle.jerks.specs.Jerks.{patternOf, signedOf, jerkOf, jerksOf};
 
 pub enum Sign {
@@ -32,11 +32,22 @@ const SIGNS: [[Sign; 7]; 2] = [
     ],
 ];
 
+// The row of a pattern. A usize from the first: by way of a u8 the compiler loses sight of the two rows, and tests each
+// sign by itself.
+fn index(control_signs: ControlSigns) -> usize
+    ensures { λ r. ⌜ r ≡ signsNumber «control_signs» ⌝ }
+{
+    match control_signs {
+        ControlSigns::UDDU => 0,
+        ControlSigns::UDUD => 1,
+    }
+}
+
 // The seven signs of a pattern.
 fn pattern(control_signs: ControlSigns) -> [Sign; 7]
     ensures { λ r. ⌜ r ≡ patternOf «control_signs» ⌝ }
 {
-    SIGNS[(signs_number(control_signs) as usize) % 2]
+    SIGNS[index(control_signs) % 2]
 }
 
 fn signed(s: Sign, jf: f64) -> f64

@@ -3,7 +3,6 @@ use labels::label;
 use labels::signs;
 use labels::start_labels;
 use line_frame::CheckNumbers;
-use line_frame::check_finite;
 use line_frame::check_numbers;
 use line_kinds::FRAME;
 use line_kinds::RECORD;
@@ -54,12 +53,14 @@ pub fn check_line(frame: &[u8; FRAME], reply: &mut [u8]) -> u32
     if !choices_fit(frame) {
         return 5;
     }
-    if !check_finite(frame) {
+    let m = check_numbers(frame);
+    if !m.ok {
         return 6;
     }
     if reply.len() < RECORD {
         return 8;
     }
-    check_reply(check_numbers(frame), frame, reply);
+    let x = m.x;
+    check_reply(x, frame, reply);
     0
 }

@@ -4,8 +4,10 @@
 use mathlib.Core.Path.{_≡_, refl, sym, ap, _∙_}
 use mathlib.Core.Bool.{Bool, true, false, cond, true≢false}
 use Rattle.step2_solver.specs.declared.Move.{Move}
+use Rattle.line_frame.specs.declared.FiniteCheck.{FiniteCheck}
 use Rattle.line_frame.specs.declared.FiniteMove.{FiniteMove}
 use Rattle.line_frame.specs.Frame.{Frame}
+use Rattle.line_frame.specs.Numbers.{checkNumbersOf, zeroCheck, checkFinite, finiteCheckOf}
 use Rattle.line_frame.specs.Numbers.{moveOf, zeroMove, moveFinite, finiteMoveOf}
 
 -- over any record of a verdict and numbers
@@ -24,6 +26,21 @@ module _ {R X : Type 0} (ok : R → Bool) (x : R → X) (b : Bool) (m y n : R) (
       by : (b : Bool) → m ≡ cond b y n → b ≡ false
       by true e = absurd (true≢false (sym oy ∙ sym (ap ok e) ∙ h))
       by false e = refl
+
+module _ (at : Frame) (m : FiniteCheck) (e : m ≡ finiteCheckOf at) where
+  abbrev yes-check : FiniteCheck
+  yes-check = record { ok = true; x = checkNumbersOf at }
+
+  abbrev no-check : FiniteCheck
+  no-check = record { ok = false; x = zeroCheck }
+
+  pub check-read : m .ok ≡ true → (checkFinite at ≡ true) × (m .x ≡ checkNumbersOf at)
+  unfolding finiteCheckOf
+  check-read = read (λ r. r .ok) (λ r. r .x) (checkFinite at) m yes-check no-check refl refl e
+
+  pub check-unread : m .ok ≡ false → checkFinite at ≡ false
+  unfolding finiteCheckOf
+  check-unread = unread (λ r. r .ok) (λ r. r .x) (checkFinite at) m yes-check no-check refl refl e
 
 module _ (at : Frame) (m : FiniteMove) (e : m ≡ finiteMoveOf at) where
   abbrev yes-move : FiniteMove

@@ -7,6 +7,7 @@ use Rattle.float.specs.Ops.{#0}
 use Rattle.roots.specs.declared.RootAnswer.{RootAnswer}
 use Rattle.roots.specs.declared.RootAnswer.the-variants.{CubeRoot, Resolved}
 use Rattle.line_frame.specs.declared.CheckNumbers.{CheckNumbers}
+use Rattle.line_frame.specs.declared.FiniteCheck.{FiniteCheck}
 use Rattle.line_frame.specs.declared.FiniteMove.{FiniteMove}
 use Rattle.step2_solver.specs.declared.Move.{Move}
 use Rattle.line_frame.specs.Frame.{Frame, numberAt, numbersAt, allFinite}
@@ -54,7 +55,24 @@ checkFinite at = allFinite (numbersAt at 60 11)
 abbrev pub moveFinite : Frame → Bool
 moveFinite at = allFinite (numbersAt at 1 12)
 
--- The twelve numbers with the answer to question 6; where one of them is not finite, zeros.
+-- The numbers with the answer to question 6; where one that is asked is not finite, zeros.
+abbrev pub zeroCheck : CheckNumbers
+zeroCheck =
+    record {
+      t = #0 ∷ #0 ∷ #0 ∷ #0 ∷ #0 ∷ #0 ∷ #0 ∷ [];
+      p0 = #0;
+      v0 = #0;
+      a0 = #0;
+      pf = #0;
+      vf = #0;
+      af = #0;
+      jf = #0;
+      «v_max» = #0;
+      «v_min» = #0;
+      «a_max» = #0;
+      «a_min» = #0;
+    }
+
 abbrev pub zeroMove : Move
 zeroMove =
     record {
@@ -71,6 +89,10 @@ zeroMove =
       «a_min» = #0;
       «j_max» = #0;
     }
+
+unfoldable pub finiteCheckOf : Frame → FiniteCheck
+finiteCheckOf at =
+    cond (checkFinite at) (record { ok = true; x = checkNumbersOf at }) (record { ok = false; x = zeroCheck })
 
 unfoldable pub finiteMoveOf : Frame → FiniteMove
 finiteMoveOf at = cond (moveFinite at) (record { ok = true; x = moveOf at }) (record { ok = false; x = zeroMove })

@@ -14,7 +14,7 @@ ghost use mathlib.Core.Bool.{true};
 ghost use Prim.Native.Nat.{_+_, _≤_};
 ghost use Rattle.line_kinds.specs.Kinds.{frameMost};
 ghost use Rattle.line_frame.specs.Frame.{byteAt};
-ghost use Rattle.line_frame.specs.Numbers.{checkNumbersOf, checkFinite};
+ghost use Rattle.line_frame.specs.Numbers.{checkNumbersOf, zeroCheck, checkFinite, finiteCheckOf};
 ghost use Rattle.line_frame.specs.Numbers.{moveOf, zeroMove, moveFinite, finiteMoveOf};
 ghost use Rattle.line_frame.specs.Numbers.{rootAnswerOf, firstAnswerOf, secondAnswerOf};
 
@@ -34,10 +34,35 @@ pub struct CheckNumbers {
     pub a_min: f64,
 }
 
+// Whether the eleven numbers after the times are finite, and all of them; zeros where they are not.
+pub struct FiniteCheck {
+    pub ok: bool,
+    pub x: CheckNumbers,
+}
+
 // Whether the twelve numbers of a frame are finite, and the numbers; zeros where they are not.
 pub struct FiniteMove {
     pub ok: bool,
     pub x: Move,
+}
+
+fn zero_check() -> CheckNumbers
+    ensures { λ r. ⌜ r ≡ zeroCheck ⌝ }
+{
+    CheckNumbers {
+        t: [0.0; 7],
+        p0: 0.0,
+        v0: 0.0,
+        a0: 0.0,
+        pf: 0.0,
+        vf: 0.0,
+        af: 0.0,
+        jf: 0.0,
+        v_max: 0.0,
+        v_min: 0.0,
+        a_max: 0.0,
+        a_min: 0.0,
+    }
 }
 
 fn zero_move() -> Move
@@ -79,29 +104,40 @@ fn move_at(frame: &[u8; FRAME]) -> Move
     }
 }
 
-// Question 6 of kind 00: whether the eleven numbers after the times are finite.
-pub fn check_finite(frame: &[u8; FRAME]) -> bool
-    ensures { λ r. ⌜ r ≡ checkFinite (byteAt (now (frame .entry))) ⌝ }
-{
-    all_finite(frame, 60, 11)
-}
-
-pub fn check_numbers(frame: &[u8; FRAME]) -> CheckNumbers
+fn check_at(frame: &[u8; FRAME]) -> CheckNumbers
+    requires { ⌜ checkFinite (byteAt (now frame)) ≡ true ⌝ }
     ensures { λ r. ⌜ r ≡ checkNumbersOf (byteAt (now (frame .entry))) ⌝ }
 {
     CheckNumbers {
         t: times(frame),
-        p0: number_at(frame, 60),
-        v0: number_at(frame, 68),
-        a0: number_at(frame, 76),
-        pf: number_at(frame, 84),
-        vf: number_at(frame, 92),
-        af: number_at(frame, 100),
-        jf: number_at(frame, 108),
-        v_max: number_at(frame, 116),
-        v_min: number_at(frame, 124),
-        a_max: number_at(frame, 132),
-        a_min: number_at(frame, 140),
+        p0: finite_at(frame, 60),
+        v0: finite_at(frame, 68),
+        a0: finite_at(frame, 76),
+        pf: finite_at(frame, 84),
+        vf: finite_at(frame, 92),
+        af: finite_at(frame, 100),
+        jf: finite_at(frame, 108),
+        v_max: finite_at(frame, 116),
+        v_min: finite_at(frame, 124),
+        a_max: finite_at(frame, 132),
+        a_min: finite_at(frame, 140),
+    }
+}
+
+// Kind 00: the eleven numbers after the times are to be finite; the times may be any.
+pub fn check_numbers(frame: &[u8; FRAME]) -> FiniteCheck
+    ensures { λ r. ⌜ r ≡ finiteCheckOf (byteAt (now (frame .entry))) ⌝ }
+{
+    if all_finite(frame, 60, 11) {
+        FiniteCheck {
+            ok: true,
+            x: check_at(frame),
+        }
+    } else {
+        FiniteCheck {
+            ok: false,
+            x: zero_check(),
+        }
     }
 }
 

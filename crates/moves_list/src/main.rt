@@ -101,7 +101,7 @@ fn tried(shape: Shape, x: Move, first: RootAnswer, second: RootAnswer) -> Checke
 fn send_reply(asks: Asks, frame: &[u8; FRAME]) -> bool {
     match asks {
         Asks::NoKind => false,
-        Asks::OfCheck => send_record(checked(frame, check_numbers(frame))),
+        Asks::OfCheck => send_record(checked(frame, check_numbers(frame).x)),
         Asks::OfShape(shape) => {
             send_record(tried(
                 shape,
