@@ -1,5 +1,5 @@
--- From the bits of a finite number above zero to the bits of its root. The number is m * 2 ^ k units. Its leading zeros
--- shift m up to 53 digits, and one place more where the power of two that is left is odd;
+-- From the bits of a finite number above zero to the bits of its root. The number is m * 2 ^ k units. A subnormal m is
+-- brought up to 53 digits by its leading zeros, and one place more where the power of two that is left is odd;
 -- the root of what that gives, times 2 ^ 54, has 54 digits, and `proofs/Rounded.antt` rounds it. Assumes nothing.
 use mathlib.Core.Path.{_≡_, refl, sym, ap, _∙_, subst}
 use Prim.Native.Nat.{ℕ, zero, suc, _+_, _-_, _*_, _/_, _%_, _^_, _≤_, _<_, suc-le-suc}
@@ -11,17 +11,12 @@ use lib.Pow.{pow-add, pow-mono, shl-lt, shl-exact}
 use lib.Count.{leadingZeros, leading-top}
 use lib.Ieee.{binary64, units}
 use Rattle.sqrt.specs.Sqrt.{IsRoot, nearestRoot}
-use Rattle.sqrt.specs.Steps.{Radicand, Parts, RootBits}
+use Rattle.sqrt.specs.Steps.{Radicand, Parts, Digits, RootBits}
 use Rattle.sqrt.proofs.Squares.{between-squares}
 use Rattle.sqrt.proofs.Rounded.{nearestRoot-at}
 use Rattle.sqrt.proofs.Units.{ofBits-units}
 
 -- ---- the number's parts
-pub parts-pos : (bits m k : ℕ) → Parts bits m k → 0 < bits → 0 < m
-parts-pos bits zero zero p h = omega arith
-parts-pos bits zero (suc k) p h = let l : 2 ^ 52 ≤ 0 = p .full (omega arith) in omega arith
-parts-pos bits (suc m) k p h = omega arith
-
 pub parts-low : (bits m k : ℕ) → Parts bits m k → bits < 0x7ff0_0000_0000_0000 → k ≤ 2045
 parts-low bits m zero p h = omega arith
 parts-low bits m (suc k) p h = let l : 2 ^ 52 ≤ m = p .full (omega arith) in omega (arith, p .sum)
@@ -67,25 +62,50 @@ shifts m p h =
 pub many-zeros : (m : ℕ) → 0 < m → m < 2 ^ 53 → 11 ≤ leadingZeros 64 m
 many-zeros m p h = shifts m p h .many
 
-pub shift-few : (m : ℕ) → 0 < m → m < 2 ^ 53 → shift m ≤ 52
-shift-few m p h = shifts m p h .few
+-- ---- 53 digits: of a subnormal number, and of any other
+pub subnormal : (bits : ℕ) → 0 < bits → bits < 2 ^ 52 → Digits bits (bits * 2 ^ shift bits % 2 ^ 64) (1022 - shift bits)
+subnormal bits p h =
+    let f : bits < 2 ^ 53 = omega arith in
+    let z = shifts bits p f in
+    let q-is = mod-eq-of-lt (lt-of-lt-of-le (z .high) (pow-mono {i = 53} {j = 64} (omega arith))) in
+    record {
+      m = bits;
+      k = 0;
+      s = shift bits;
+      parts = record { sum = omega arith; few = f; full = λ l. absurd (omega arith) };
+      brought = q-is;
+      few = z .few;
+      low = rw q-is (z .low);
+      high = rw q-is (z .high);
+      power = left (shift bits) (z .few);
+    }
+  where
+    left : (s : ℕ) → s ≤ 52 → 1022 - s + s ≡ 0 + 1022
+    left s l = omega arith
 
--- ---- the power of two that is left, and what the integer root is taken of
-abbrev pub power : ℕ → ℕ → ℕ
-power m k = k + 1022 - shift m
+pub normal : (bits : ℕ) → 2 ^ 52 ≤ bits → Digits bits (bits % 2 ^ 52 + 2 ^ 52) (bits / 2 ^ 52 + 1021)
+normal bits h =
+    record {
+      m = bits % 2 ^ 52 + 2 ^ 52;
+      k = bits / 2 ^ 52 - 1;
+      s = 0;
+      parts = record { sum = omega arith; few = omega arith; full = λ l. omega arith };
+      brought = sym (mul-one (bits % 2 ^ 52 + 2 ^ 52));
+      few = omega arith;
+      low = omega arith;
+      high = omega arith;
+      power = omega arith;
+    }
 
+-- ---- what the integer root is taken of: one place more where the power of two is odd
 abbrev pub shifted : ℕ → ℕ → ℕ
-shifted m e = m * 2 ^ shift m % 2 ^ 64 * 2 ^ (e % 2) % 2 ^ 64
+shifted q e = q * 2 ^ (e % 2) % 2 ^ 64
 
 two-values : (z : ℕ) → z % 2 ≤ 1
 two-values z = omega arith
 
-shifted-is : (m e : ℕ) → 0 < m → m < 2 ^ 53 → shifted m e ≡ m * 2 ^ shift m * 2 ^ (e % 2)
-shifted-is m e p h =
-    let d = e % 2 in
-    ap (λ (x : ℕ). x * 2 ^ d % 2 ^ 64)
-    (mod-eq-of-lt (lt-of-lt-of-le (shifts m p h .high) (pow-mono {i = 53} {j = 64} (omega arith))))
-    ∙ shl-exact 53 d 64 (shifts m p h .high) (room d (two-values e))
+shifted-is : (q e : ℕ) → q < 2 ^ 53 → shifted q e ≡ q * 2 ^ (e % 2)
+shifted-is q e h = shl-exact 53 (e % 2) 64 h (room (e % 2) (two-values e))
   where
     room : (d : ℕ) → d ≤ 1 → 53 + d ≤ 64
     room d l = omega arith
@@ -95,9 +115,8 @@ doubled q zero l lo hi = rw (mul-one q) (record { low = lo; high = omega arith }
 doubled q (suc zero) l lo hi = record { low = omega arith; high = omega arith }
 doubled q (suc (suc d)) l lo hi = absurd (omega arith)
 
-pub shifted-radicand : (m e : ℕ) → 0 < m → m < 2 ^ 53 → Radicand (shifted m e)
-shifted-radicand m e p h = subst Radicand (sym (shifted-is m e p h))
-    (doubled (m * 2 ^ shift m) (e % 2) (two-values e) (shifts m p h .low) (shifts m p h .high))
+pub shifted-radicand : (q e : ℕ) → 2 ^ 52 ≤ q → q < 2 ^ 53 → Radicand (shifted q e)
+shifted-radicand q e lo hi = subst Radicand (sym (shifted-is q e hi)) (doubled q (e % 2) (two-values e) lo hi)
 
 -- ---- the 54 digits of its root
 pub digits-low : (a r : ℕ) → Radicand a → IsRoot (a * 2 ^ 54) r → 2 ^ 53 ≤ r
@@ -125,61 +144,62 @@ powers m k s d K N L e =
     joined : (m a b : ℕ) → m * 2 ^ a * 2 ^ b ≡ m * 2 ^ (a + b)
     joined m a b = mul-assoc m (2 ^ a) (2 ^ b) ∙ ap (λ (x : ℕ). m * x) (sym (pow-add 2 a b))
 
--- e is what `power` gives
-half-power : (e k s : ℕ) → s ≤ 52 → e ≡ k + 1022 - s → s + e % 2 + 54 + (e / 2 - 1 + (e / 2 - 1)) ≡ k + 1074
+-- ---- the root, and its bits
+half-power : (e k s : ℕ) → s ≤ 52 → e + s ≡ k + 1022 → s + e % 2 + 54 + (e / 2 - 1 + (e / 2 - 1)) ≡ k + 1074
 half-power e k s l h = omega arith
 
-nearest-is : (m k r : ℕ) → 0 < m → m < 2 ^ 53 → IsRoot (shifted m (power m k) * 2 ^ 54) r
-    → nearestRoot (m * 2 ^ k * 2 ^ 1074) ≡ units binary64 false ((r + 1) / 2) (power m k / 2)
-nearest-is m k r p h H =
-    let e = power m k in
-    let a = shifted m e in
-    let K = e / 2 - 1 in
-    let w-is : m * 2 ^ k * 2 ^ 1074 ≡ a * 2 ^ 54 * (2 ^ K * 2 ^ K) =
-    powers m k (shift m) (e % 2) K 54 1074 (half-power e k (shift m) (shift-few m p h) refl)
-    ∙ ap (λ (x : ℕ). x * 2 ^ 54 * (2 ^ K * 2 ^ K)) (sym (shifted-is m e p h)) in
-    let A = shifted-radicand m e p h in
-    ap nearestRoot w-is
-    ∙ nearestRoot-at (a * 2 ^ 54) r K (even a) H (digits-low a r A H) (le-of-lt (digits-high a r A H))
-    ∙ ap (units binary64 false ((r + 1) / 2)) (back e (large k (shift m) (shift-few m p h)))
+pub half-most : (bits q e : ℕ) → Digits bits q e → bits < 0x7ff0_0000_0000_0000 → e / 2 ≤ 1533
+half-most bits q e N hi = most (N .k) (N .s) (parts-low bits (N .m) (N .k) (N .parts) hi) (N .power)
   where
-    even : (a : ℕ) → a * 2 ^ 54 % 2 ≡ 0
-    even a = omega arith
+    most : (k s : ℕ) → k ≤ 2045 → e + s ≡ k + 1022 → e / 2 ≤ 1533
+    most k s l h = omega arith
 
-    large : (k s : ℕ) → s ≤ 52 → 2 ≤ k + 1022 - s
-    large k s l = omega arith
+module _ (bits q e r : ℕ) (N : Digits bits q e) (H : IsRoot (shifted q e * 2 ^ 54) r) where
+  taken : Radicand (shifted q e)
+  taken = shifted-radicand q e (N .low) (N .high)
 
-    back : (e : ℕ) → 2 ≤ e → suc (e / 2 - 1) ≡ e / 2
-    back e l = omega arith
+  nearest-is : nearestRoot (N .m * 2 ^ N .k * 2 ^ 1074) ≡ units binary64 false ((r + 1) / 2) (e / 2)
+  nearest-is =
+      let a = shifted q e in
+      let K = e / 2 - 1 in
+      let w-is : N .m * 2 ^ N .k * 2 ^ 1074 ≡ a * 2 ^ 54 * (2 ^ K * 2 ^ K) =
+      powers (N .m) (N .k) (N .s) (e % 2) K 54 1074 (half-power e (N .k) (N .s) (N .few) (N .power))
+      ∙ ap (λ (x : ℕ). x * 2 ^ (e % 2) * 2 ^ 54 * (2 ^ K * 2 ^ K)) (sym (N .brought))
+      ∙ ap (λ (x : ℕ). x * 2 ^ 54 * (2 ^ K * 2 ^ K)) (sym (shifted-is q e (N .high))) in
+      ap nearestRoot w-is
+      ∙ nearestRoot-at (a * 2 ^ 54) r K (even a) H (digits-low a r taken H) (le-of-lt (digits-high a r taken H))
+      ∙ ap (units binary64 false ((r + 1) / 2)) (back e (large e (N .k) (N .s) (N .few) (N .power)))
+    where
+      even : (a : ℕ) → a * 2 ^ 54 % 2 ≡ 0
+      even a = omega arith
 
--- ---- the bits of the root
-pub root-bits : (bits m k r : ℕ) → Parts bits m k → 0 < bits → bits < 0x7ff0_0000_0000_0000
-    → IsRoot (shifted m (power m k) * 2 ^ 54) r → RootBits bits (power m k / 2 * 2 ^ 52 + (r + 1) / 2)
-root-bits bits m k r P lo hi H =
-    let M = parts-pos bits m k P lo in
-    let a = shifted m (power m k) in
-    let A = shifted-radicand m (power m k) M (P .few) in
-    let q-low : 2 ^ 52 ≤ (r + 1) / 2 = half-low r (digits-low a r A H) in
-    let q-high : (r + 1) / 2 < 2 ^ 53 = half-high r (digits-high a r A H) in
-    let e-low : power m k / 2 ≤ 1533 = half-few k (shift m) (parts-low bits m k P hi) in
-    record {
-      finite = under ((r + 1) / 2) (power m k / 2) q-high e-low;
-      root = λ m' k' P'.
-          let one = parts-one bits m k m' k' P P' in
-          ofBits-units ((r + 1) / 2) (power m k / 2) q-low q-high (le-trans e-low (omega arith))
-          ∙ sym (nearest-is m k r M (P .few) H)
-          ∙ ap (λ (x : ℕ). nearestRoot (x * 2 ^ k * 2 ^ 1074)) (one .0)
-          ∙ ap (λ (x : ℕ). nearestRoot (m' * 2 ^ x * 2 ^ 1074)) (one .1);
-    }
-  where
-    half-low : (r : ℕ) → 2 ^ 53 ≤ r → 2 ^ 52 ≤ (r + 1) / 2
-    half-low r l = omega arith
+      large : (e k s : ℕ) → s ≤ 52 → e + s ≡ k + 1022 → 2 ≤ e
+      large e k s l h = omega arith
 
-    half-high : (r : ℕ) → suc r < 2 ^ 54 → (r + 1) / 2 < 2 ^ 53
-    half-high r l = omega arith
+      back : (e : ℕ) → 2 ≤ e → suc (e / 2 - 1) ≡ e / 2
+      back e l = omega arith
 
-    half-few : (k s : ℕ) → k ≤ 2045 → (k + 1022 - s) / 2 ≤ 1533
-    half-few k s l = omega arith
+  pub root-bits : bits < 0x7ff0_0000_0000_0000 → RootBits bits (e / 2 * 2 ^ 52 + (r + 1) / 2)
+  root-bits hi =
+      let a = shifted q e in
+      let q-low : 2 ^ 52 ≤ (r + 1) / 2 = half-low r (digits-low a r taken H) in
+      let q-high : (r + 1) / 2 < 2 ^ 53 = half-high r (digits-high a r taken H) in
+      let e-low = half-most bits q e N hi in
+      record {
+        finite = under ((r + 1) / 2) (e / 2) q-high e-low;
+        root = λ m' k' P'.
+            let one = parts-one bits (N .m) (N .k) m' k' (N .parts) P' in
+            ofBits-units ((r + 1) / 2) (e / 2) q-low q-high (le-trans e-low (omega arith))
+            ∙ sym nearest-is
+            ∙ ap (λ (x : ℕ). nearestRoot (x * 2 ^ N .k * 2 ^ 1074)) (one .0)
+            ∙ ap (λ (x : ℕ). nearestRoot (m' * 2 ^ x * 2 ^ 1074)) (one .1);
+      }
+    where
+      half-low : (r : ℕ) → 2 ^ 53 ≤ r → 2 ^ 52 ≤ (r + 1) / 2
+      half-low r l = omega arith
 
-    under : (q e : ℕ) → q < 2 ^ 53 → e ≤ 1533 → e * 2 ^ 52 + q < 0x7ff0_0000_0000_0000
-    under q e l g = omega arith
+      half-high : (r : ℕ) → suc r < 2 ^ 54 → (r + 1) / 2 < 2 ^ 53
+      half-high r l = omega arith
+
+      under : (q e : ℕ) → q < 2 ^ 53 → e ≤ 1533 → e * 2 ^ 52 + q < 0x7ff0_0000_0000_0000
+      under q e l g = omega arith

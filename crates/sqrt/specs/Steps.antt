@@ -26,6 +26,18 @@ pub record Parts (bits m k : ℕ) : Type 0 where
   pub few : m < 2 ^ 53
   pub full : 0 < k → 2 ^ 52 ≤ m
 
+-- q is m brought up to 53 digits, by s places, and e is the power of two that is left, which counts from -1022
+pub record Digits (bits q e : ℕ) : Type 0 where
+  pub m : ℕ
+  pub k : ℕ
+  pub s : ℕ
+  pub parts : Parts bits m k
+  pub brought : q ≡ m * 2 ^ s
+  pub few : s ≤ 52
+  pub low : 2 ^ 52 ≤ q
+  pub high : q < 2 ^ 53
+  pub power : e + s ≡ k + 1022
+
 -- r is the bits of the f64 nearest to the root of the f64 with these bits
 pub record RootBits (bits r : ℕ) : Type 0 where
   pub finite : r < 0x7ff0_0000_0000_0000

@@ -1,53 +1,32 @@
 -- `sqrt::parts::root_bits` meets its contract, by `proofs/Shifted.antt`. Assumes nothing.
-use borrow.Author.Needs.{needs}
-use Prim.Native.Nat.{_<_}
+use Prim.Native.Nat.{suc, _/_, _^_, _≤_, _<_}
 use native.Mathlib.Omega.{arith}
-use lib.Count.{leading-le}
-use Rattle.sqrt.proofs.Shifted.{parts-pos, many-zeros, shifted-radicand, digits-high, root-bits}
+use borrow.Author.Needs.{needs}
+use Rattle.sqrt.specs.Steps.{Radicand}
+use Rattle.sqrt.proofs.Shifted.{shifted, shifted-radicand, digits-high, half-most, root-bits}
 use Rattle.sqrt.proofs.parts.root_bits.Statement.{statement}
 use Rattle.sqrt.proofs.parts.root_bits.Tie as tie
 
-positive : (c : tie.After-parts) → 0 < c .parts .result .m
-positive c = parts-pos (c .before .args .bits) (c .parts .result .m) (c .parts .result .k) (c .parts .ensures)
-    (c .before .pre .0)
+-- ---- once the digits are there
+taken : (c : tie.After-parts) → Radicand (shifted (c .parts .result .q) (c .parts .result .e))
+taken c = shifted-radicand (c .parts .result .q) (c .parts .result .e) (c .parts .ensures .low) (c .parts .ensures .high)
 
-sub-s : tie.Need-sub-s
-sub-s c = many-zeros (c .before .parts .result .m) (positive (c .before)) (c .before .parts .ensures .few)
+half : (c : tie.After-parts) → c .parts .result .e / 2 ≤ 1533
+half c = half-most (c .before .args .bits) (c .parts .result .q) (c .parts .result .e) (c .parts .ensures) (c .before .pre .1)
 
-cast-q : tie.Need-cast-q
-cast-q c = omega (arith, leading-le 64 (c .before .parts .result .m))
-
-shl-q : tie.Need-shl-q
-shl-q c = omega (arith, leading-le 64 (c .before .before .parts .result .m))
-
-cast-e : tie.Need-cast-e
-cast-e c = omega (arith, leading-le 64 (c .before .before .before .parts .result .m))
-
-sub-e : tie.Need-sub-e
-sub-e c = omega (arith, leading-le 64 (c .before .before .before .parts .result .m))
-
-root54-requires : tie.Need-root54-requires
-root54-requires c κs =
-    let at = c .before .before .before in
-    shifted-radicand (at .parts .result .m) _ (positive at) (at .parts .ensures .few)
-
-add-result : tie.Need-add-result
-add-result c =
-    let at = c .before .before .before .before in
-    omega (
-      arith,
-      digits-high _ (c .root54 .result)
-          (shifted-radicand (at .parts .result .m) _ (positive at) (at .parts .ensures .few)) (c .root54 .ensures),
-    )
+-- ---- and the root
+high : (c : tie.After-root54) → suc (c .root54 .result) < 2 ^ 54
+high c = digits-high _ (c .root54 .result) (taken (c .before .before .before .before)) (c .root54 .ensures)
 
 returns : tie.Need-returns
 returns c =
-    let at = c .before .before .before .before in
-    root-bits (at .before .args .bits) (at .parts .result .m) (at .parts .result .k) (c .root54 .result)
-    (at .parts .ensures) (at .before .pre .0) (at .before .pre .1) (c .root54 .ensures)
+    let p = c .before .before .before .before in
+    root-bits (p .before .args .bits) (p .parts .result .q) (p .parts .result .e) (c .root54 .result) (p .parts .ensures)
+    (c .root54 .ensures) (p .before .pre .1)
 
 pub root-bits-spec : {M : Type 1} → statement M
 root-bits-spec =
     tie.close
-    (tie.spec (λ c κs. tt) sub-s cast-q shl-q (λ c. search needs) cast-e sub-e (λ c. search needs)
-    (λ c. search needs) root54-requires add-result (λ c. search needs) returns)
+    (tie.spec (λ c κs. c .pre .0) (λ c. search needs) (λ c. omega (arith, half (c .before .before .before)))
+    (λ c κs. taken (c .before .before .before)) (λ c. omega (arith, high c))
+    (λ c. omega (arith, high c, half (c .before .before .before .before))) returns)
