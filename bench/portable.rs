@@ -13,10 +13,13 @@ fn rounded(x: f64, root: impl Fn(u64) -> u64) -> f64 {
         if bits == INFINITY {
             return x;
         }
-        let (m, k) = if bits < ONE { (bits, 0) } else { (bits % ONE + ONE, bits / ONE - 1) };
-        let shift = m.leading_zeros() - 11;
-        let e = k + 1022 - shift as u64;
-        let a = m << shift << (e % 2);
+        let (q, e) = if bits < ONE {
+            let shift = bits.leading_zeros() - 11;
+            (bits << shift, 1022 - shift as u64)
+        } else {
+            (bits % ONE + ONE, bits / ONE + 1021)
+        };
+        let a = q << (e % 2);
         f64::from_bits(e / 2 * ONE + (root(a) + 1) / 2)
     } else if x == 0.0 {
         x
