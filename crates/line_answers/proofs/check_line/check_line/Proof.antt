@@ -36,7 +36,8 @@ abbrev first : tie.Else2 → tie.Else1
 first i = i .before .before .before
 
 read : (i : tie.Else2)
-    → (checkFinite (at (first i)) ≡ true) × (i .before .before .check-numbers .result .x ≡ checkNumbersOf (at (first i)))
+    → (checkFinite (at (first i)) ≡ true)
+    × (i .before .before .check-numbers .result .x ≡ checkNumbersOf (at (first i)))
 read i =
     let m = i .before .before in
     check-read (at (first i)) (m .check-numbers .result) (m .check-numbers .ensures) (not-false _ (i .if2 .left))

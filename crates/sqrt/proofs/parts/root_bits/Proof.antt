@@ -9,10 +9,12 @@ use Rattle.sqrt.proofs.parts.root_bits.Tie as tie
 
 -- ---- once the digits are there
 taken : (c : tie.After-parts) → Radicand (shifted (c .parts .result .q) (c .parts .result .e))
-taken c = shifted-radicand (c .parts .result .q) (c .parts .result .e) (c .parts .ensures .low) (c .parts .ensures .high)
+taken c =
+    let x = c .parts .result in shifted-radicand (x .q) (x .e) (c .parts .ensures .low) (c .parts .ensures .high)
 
 half : (c : tie.After-parts) → c .parts .result .e / 2 ≤ 1533
-half c = half-most (c .before .args .bits) (c .parts .result .q) (c .parts .result .e) (c .parts .ensures) (c .before .pre .1)
+half c =
+    let x = c .parts .result in half-most (c .before .args .bits) (x .q) (x .e) (c .parts .ensures) (c .before .pre .1)
 
 -- ---- and the root
 high : (c : tie.After-root54) → suc (c .root54 .result) < 2 ^ 54
@@ -20,9 +22,9 @@ high c = digits-high _ (c .root54 .result) (taken (c .before .before .before .be
 
 returns : tie.Need-returns
 returns c =
-    let p = c .before .before .before .before in
-    root-bits (p .before .args .bits) (p .parts .result .q) (p .parts .result .e) (c .root54 .result) (p .parts .ensures)
-    (c .root54 .ensures) (p .before .pre .1)
+    let p = c .before .before .before .before in let x = p .parts .result in
+    root-bits (p .before .args .bits) (x .q) (x .e) (c .root54 .result) (p .parts .ensures) (c .root54 .ensures)
+    (p .before .pre .1)
 
 pub root-bits-spec : {M : Type 1} → statement M
 root-bits-spec =
