@@ -34,7 +34,7 @@ pub struct CheckNumbers {
     pub a_min: f64,
 }
 
-// Whether the eleven numbers after the times are finite, and all of them; zeros where they are not.
+// Whether the eleven numbers after the times are finite, and these with the times; zeros where they are not.
 pub struct FiniteCheck {
     pub ok: bool,
     pub x: CheckNumbers,
