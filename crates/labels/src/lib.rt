@@ -64,10 +64,9 @@ pub fn signs(n: u8) -> ControlSigns
     ensures { λ r. ⌜ r ≡ signsOf n ⌝ }
 {
     if n == 0 {
-        ControlSigns::UDDU
-    } else {
-        ControlSigns::UDUD
+        return ControlSigns::UDDU;
     }
+    ControlSigns::UDUD
 }
 
 pub fn label_number(limits: ReachedLimits) -> u8

@@ -12,21 +12,18 @@ use profile::in_place::check;
 use row::set_times;
 use row::start;
 ghost use mathlib.Core.Path.{_≡_};
-ghost use Prim.Native.Nat.{_≤_};
-ghost use lib.ListN.{length};
-ghost use Rattle.hex.specs.Hex.{hexOf, fill};
+ghost use Rattle.hex.specs.Hex.{Filled};
 ghost use Rattle.line_kinds.specs.declared.Asks.the-variants.{OfCheck};
 ghost use Rattle.line_kinds.specs.Kinds.{recordPlaces};
 ghost use Rattle.line_frame.specs.Frame.{byteAt};
-ghost use Rattle.line_reply.specs.Reply.{replyBytesOf};
+ghost use Rattle.line_reply.specs.Reply.{replyBytesOf, writtenOf};
 ghost use Rattle.line_answers.specs.CheckLine.{checkedOf};
 ghost use Rattle.line_answers.specs.FrameAnswer.{Answer, frameAnswerOf};
 
 // The reply, of numbers that are read.
-fn check_reply(x: CheckNumbers, frame: &[u8; FRAME], reply: &mut [u8])
-    requires { ⌜ recordPlaces ≤ length (now reply) ⌝ }
-    ensures { λ _. ⌜ now (reply .exit)
-        ≡ fill (hexOf (replyBytesOf (checkedOf x (byteAt (now (frame .entry)))))) (now (reply .entry)) ⌝ }
+fn check_reply(x: CheckNumbers, frame: &[u8; FRAME], reply: &mut [u8]) -> bool
+    ensures { λ r. ⌜ record { ok = r; left = now (reply .exit) }
+        ≡ writtenOf recordPlaces (replyBytesOf (checkedOf x (byteAt (now (frame .entry))))) (now (reply .entry)) ⌝ }
 {
     let mut row = start(x.p0, x.v0, x.a0, x.pf, x.vf, x.af);
     let t = x.t;
@@ -43,7 +40,7 @@ fn check_reply(x: CheckNumbers, frame: &[u8; FRAME], reply: &mut [u8])
         x.a_max,
         x.a_min,
     );
-    write_record(reply, answer, &row);
+    write_record(reply, answer, &row)
 }
 
 pub fn check_line(frame: &[u8; FRAME], reply: &mut [u8]) -> u32

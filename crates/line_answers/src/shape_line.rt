@@ -22,14 +22,12 @@ use step2_solver::PositionThirdOrderStep2;
 use step2_solver::Shape;
 ghost use mathlib.Core.Path.{_≡_};
 ghost use mathlib.Core.Bool.{true, cond};
-ghost use Prim.Native.Nat.{_≤_};
-ghost use lib.ListN.{length};
-ghost use Rattle.hex.specs.Hex.{hexOf, fill};
+ghost use Rattle.hex.specs.Hex.{Filled};
 ghost use Rattle.position_third_step2.specs.Shape.{shapeOf, fresh};
 ghost use Rattle.line_kinds.specs.Kinds.{recordPlaces, quarticsPlaces};
 ghost use Rattle.line_frame.specs.Frame.{byteAt};
 ghost use Rattle.line_questions.specs.Questions.{countsFit};
-ghost use Rattle.line_reply.specs.Reply.{replyBytesOf};
+ghost use Rattle.line_reply.specs.Reply.{replyBytesOf, writtenOf};
 ghost use Rattle.line_answers.specs.QuarticLine.{bothBytes};
 ghost use Rattle.line_answers.specs.FrameAnswer.{Answer, ofShape, frameAnswerOf};
 
@@ -43,14 +41,13 @@ fn shape_reply(
     first: RootAnswer,
     second: RootAnswer,
     reply: &mut [u8],
-)
-    requires { ⌜ recordPlaces ≤ length (now reply) ⌝ }
-    ensures { λ _. ⌜ now (reply .exit)
-        ≡ fill (hexOf (replyBytesOf (shapeOf shape s l q first second (fresh x)))) (now (reply .entry)) ⌝ }
+) -> bool
+    ensures { λ r. ⌜ record { ok = r; left = now (reply .exit) }
+        ≡ writtenOf recordPlaces (replyBytesOf (shapeOf shape s l q first second (fresh x))) (now (reply .entry)) ⌝ }
 {
     let mut row = start(x.p0, x.v0, x.a0, x.pf, x.vf, x.af);
     let answer = ask(shape, s, l, q, first, second, &mut row, start_labels());
-    write_record(reply, answer, &row);
+    write_record(reply, answer, &row)
 }
 
 // Question 5, which has nothing to ask of a line that asks for the quartics alone.
@@ -64,13 +61,13 @@ fn answers_fit(quartics: bool, shape: Shape, frame: &[u8; FRAME]) -> bool
     }
 }
 
-fn quartics_reply(q: Quartics, reply: &mut [u8])
-    requires { ⌜ quarticsPlaces ≤ length (now reply) ⌝ }
-    ensures { λ _. ⌜ now (reply .exit) ≡ fill (hexOf (bothBytes q)) (now (reply .entry)) ⌝ }
+fn quartics_reply(q: Quartics, reply: &mut [u8]) -> bool
+    ensures { λ r. ⌜ record { ok = r; left = now (reply .exit) }
+        ≡ writtenOf quarticsPlaces (bothBytes q) (now (reply .entry)) ⌝ }
 {
     let uddu = q.uddu;
     let udud = q.udud;
-    write_quartics(reply, uddu, udud);
+    write_quartics(reply, uddu, udud)
 }
 
 // A line of twelve numbers: it asks a shape, or the quartics of one.

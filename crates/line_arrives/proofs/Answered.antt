@@ -10,7 +10,7 @@ use lib.Ieee.{binary64}
 use lib.Ieee.Bits.{ofBits-fits}
 use Rattle.rounding.specs.Value.{Number}
 use Rattle.roots.specs.declared.RootAnswer.the-variants.{CubeRoot, Resolved}
-use Rattle.roots.proofs.Laws.{AnswerFits}
+use Rattle.roots.specs.Fits.{AnswerFits}
 use Rattle.profile.specs.declared.Checked.{Checked}
 use Rattle.step2_solver.specs.declared.Shape.{Shape}
 use Rattle.position_third_step2.specs.Shape.{fresh}

@@ -1,12 +1,12 @@
 -- Runs of stores: eight, one after another, over a whole list; and the rows of numbers in a reply. Assumes nothing.
-use mathlib.Core.Path.{_≡_, refl, _∙_}
+use mathlib.Core.Path.{_≡_, refl, ap, sym, _∙_}
 use mathlib.Core.List.{List, [], _∷_, _++_, append-assoc, append-nil}
 use Prim.Native.Nat.{ℕ, suc, _+_, _*_, _≤_, _<_}
 use native.Mathlib.Nat.{add-zero, add-suc, suc-add}
 use native.Mathlib.Numerals.{add-one}
 use native.Mathlib.Omega.{arith}
 use lib.ListN.{length, getD, take, drop, set, length-append, drop-of-length-le}
-use lib.Seq.{drop-cons, sets, sets-eq, take-append-seam}
+use lib.Seq.{drop-cons, sets, sets-eq, length-sets, take-append-seam}
 use lib.Ieee.{Float}
 use Rattle.number_bytes.specs.Bytes.{numberBytes}
 use Rattle.row.specs.Row.{part, numbersIn}
@@ -89,11 +89,12 @@ module _ (x : List Float) (row : length x ≡ 48) (l : List ℕ) (hl : length l 
       (sets-eq x6 l 4 h ∙ rw (drop-of-length-le l k) (simp (append-assoc, append-nil))))
 
 -- the first four places after the head is stored
-pub head-first : (r : Verdict) (l : List ℕ) → length l ≡ 364 → take 4 (sets l 0 (headOf r)) ≡ headOf r
+pub head-first : (r : Verdict) (b l : List ℕ) → l ≡ sets b 0 (headOf r) → length l ≡ 364 → take 4 l ≡ headOf r
 unfolding headOf
-head-first r l h =
-    let k : 0 + 4 ≤ length l = omega arith in
-    rw (sets-eq (headOf r) l 0 k) (take-append-seam (headOf r) (drop (0 + 4) l))
+head-first r b l e h =
+    let n : length b ≡ 364 = sym (length-sets b 0 (headOf r)) ∙ ap length (sym e) ∙ h in
+    let k : 0 + 4 ≤ length b = omega arith in
+    rw (e, sets-eq (headOf r) b 0 k) (take-append-seam (headOf r) (drop (0 + 4) b))
 
 -- two runs of stores, one right after the other, over a whole list
 pub both : (xs ys l : List ℕ) (n : ℕ) → 0 + length xs ≡ n → length l ≡ n + length ys

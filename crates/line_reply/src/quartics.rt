@@ -22,7 +22,6 @@ fn put_quartic(bytes: &mut [u8], at: usize, p: [f64; 4])
 }
 
 pub fn put_quartics(bytes: &mut [u8; 114], uddu: [f64; 4], udud: [f64; 4])
-    requires { ⌜ length (now bytes) ≡ 114 ⌝ }
     ensures { λ _. ⌜ now (bytes .exit) ≡ quarticBytes uddu ++ quarticBytes udud ⌝ }
 {
     put_quartic(bytes, 0, uddu);

@@ -5,15 +5,11 @@ use labels::label_number;
 use labels::signs_number;
 use profile::in_place::Verdict;
 use row::NUMBERS;
-use row::whole;
 ghost use mathlib.Core.Path.{_≡_};
 ghost use mathlib.Core.Bool.{cond};
-ghost use mathlib.Core.List.{_++_};
-ghost use lib.ListN.{length, take};
 ghost use lib.Seq.{sets};
-ghost use Rattle.row.specs.Row.{numbersIn};
 ghost use Rattle.profile.specs.Parts.{checkedIn};
-ghost use Rattle.line_reply.specs.Reply.{headOf, rowsOf, replyBytesOf};
+ghost use Rattle.line_reply.specs.Reply.{headOf, replyBytesOf};
 
 // Verdict, label, direction and signs.
 fn put_head(bytes: &mut [u8; 364], answer: Verdict)
@@ -35,12 +31,11 @@ fn verdict(ok: bool) -> u8
     if ok { 1 } else { 0 }
 }
 
-// The six rows one by one: a loop over all 45 numbers takes longer.
-fn put_rows(bytes: &mut [u8; 364], x: &[f64; NUMBERS])
-    requires { ⌜ length (now bytes) ≡ 364 ⌝ }
-    ensures { λ _. ⌜ now (bytes .exit) ≡ take 4 (now (bytes .entry)) ++ rowsOf (numbersIn (now (x .entry))) ⌝ }
+// The head, and the six rows one by one: a loop over all 45 numbers takes longer.
+pub fn put_record(bytes: &mut [u8; 364], answer: Verdict, x: &[f64; NUMBERS])
+    ensures { λ _. ⌜ now (bytes .exit) ≡ replyBytesOf (checkedIn (now (x .entry)) answer) ⌝ }
 {
-    whole(*x);
+    put_head(bytes, answer);
     let all = &x[..];
     put_row(bytes, 4, &all[0..7]);
     put_row(bytes, 60, &all[7..14]);
@@ -48,12 +43,4 @@ fn put_rows(bytes: &mut [u8; 364], x: &[f64; NUMBERS])
     put_row(bytes, 172, &all[21..29]);
     put_row(bytes, 236, &all[29..37]);
     put_row(bytes, 300, &all[37..45]);
-}
-
-pub fn put_record(bytes: &mut [u8; 364], answer: Verdict, x: &[f64; NUMBERS])
-    requires { ⌜ length (now bytes) ≡ 364 ⌝ }
-    ensures { λ _. ⌜ now (bytes .exit) ≡ replyBytesOf (checkedIn (now (x .entry)) answer) ⌝ }
-{
-    put_head(bytes, answer);
-    put_rows(bytes, x);
 }

@@ -1,5 +1,6 @@
 -- The moves that document 01 works through, as rows of one table: each move is a line, and its row says what the line
--- entry answers. Definitions only.
+-- entry answers. The root of 2 and the quartic are no lines: their rows are of `sqrtOf`, `rootsOf` and `sortedOf`.
+-- Definitions only.
 use mathlib.Core.Bool.{Bool, true, false, _&&_}
 use mathlib.Core.List.{List, [], _∷_, _++_}
 use Prim.Native.Nat.{ℕ, _+_, _*_}
@@ -156,7 +157,8 @@ table =
     ∷ same (numberAt (byteAt (bytesOf (moved 0x04 #6 #6 #2 #1 .places))) 12) (neg #1)
     -- root of 2
     ∷ same (sqrtOf #2) (ofBits binary64 0x3FF6_A09E_667F_3BCD)
-    -- quartic -3 2 0 0 inserts 0, 1, 2
+    -- quartic -3 2 0 0 inserts 0, 1, 2, in this order, and tries them in this order
+    ∷ all-same (rootsOf (neg #3) #2 #0 #0 (CubeRoot #0)) (#0 ∷ #1 ∷ #2 ∷ [])
     ∷ all-same (sortedOf (rootsOf (neg #3) #2 #0 #0 (CubeRoot #0))) (#0 ∷ #1 ∷ #2 ∷ [])
     -- whole case: 00000700 and 288 zeros print 01070100 and 720 zeros
     ∷ all-equal (answerOf (48 ∷ 48 ∷ 48 ∷ 48 ∷ 48 ∷ 55 ∷ 48 ∷ 48 ∷ replicate 288 48) (replicate replyMost 0) .places)

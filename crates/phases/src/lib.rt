@@ -1,5 +1,5 @@
 // What `check` of profile.rs is made of, over the numbers of a profile in one row: the phase times and their sums, one
 // phase, and all seven.
 pub mod nodes;
-pub mod phase;
+mod phase;
 pub mod times;

@@ -7,7 +7,6 @@ use row::J;
 use row::NUMBERS;
 use row::P;
 use row::V;
-use row::whole;
 ghost use mathlib.Core.Path.{_≡_};
 ghost use Rattle.phases.specs.Run.{Step};
 ghost use Rattle.row.specs.Row.{numbersIn};
@@ -32,10 +31,10 @@ pub fn nodes(
     ensures { λ r. ⌜ record { ok = r; left = numbersIn (now (x .exit)) }
         ≡ movedOf tests «set_limits» «a_max» «a_min» band (numbersIn (now (x .entry))) ⌝ }
 {
-    whole(*x);
-    let mut p0 = x[P];
-    let mut v0 = x[V];
-    let mut a0 = x[A];
+    let all = &x[..];
+    let mut p0 = all[P];
+    let mut v0 = all[V];
+    let mut a0 = all[A];
     for i in 0..7 {
         let next = phase(
             i,

@@ -15,7 +15,7 @@ use Rattle.step2_solver.specs.declared.Trial.{Trial}
 use Rattle.step2_solver.specs.declared.Shape.{Shape}
 use Rattle.step2_solver.specs.declared.Shape.the-variants.{Acc0Acc1Vel, Acc1Vel, Acc0Vel, Acc0Acc1, Acc0}
 use Rattle.time_acc0_acc1_vel.specs.TimeAcc0Acc1Vel.{acc0Acc1VelUddu, acc0Acc1VelUdud}
-use Rattle.time_acc0_acc1.specs.TimeAcc0Acc1.{acc0Acc1RestApplies, acc0Acc1Rest, acc0Acc1Uddu}
+use Rattle.time_acc0_acc1.specs.TimeAcc0Acc1.{acc0Acc1Of}
 use Rattle.time_acc0.specs.TimeAcc0.{acc0First, acc0Second, acc0Third}
 use Rattle.step2_quartics.specs.declared.Quartics.{Quartics}
 use Rattle.time_acc1_vel.specs.TimeAcc1Vel.{acc1VelUdduWindow, acc1VelUddu, acc1VelUdudWindow, acc1VelUdud}
@@ -35,7 +35,7 @@ attemptsOf Acc0Vel s l q first second =
     cond (acc0VelTooShort s (l .«a_max») (l .«j_max»)) []
     (overRoots (acc0VelUddu s l (acc0VelUdduWindow s l)) (q .uddu) first
     ++ overRoots (acc0VelUdud s l (acc0VelUdudWindow s l)) (q .udud) second)
-attemptsOf Acc0Acc1 s l q first second = cond (acc0Acc1RestApplies s) (acc0Acc1Rest s l) (acc0Acc1Uddu s l) ∷ []
+attemptsOf Acc0Acc1 s l q first second = acc0Acc1Of s l ∷ []
 attemptsOf Acc0 s l q first second = acc0First s l ∷ acc0Second s l ∷ acc0Third s l ∷ []
 
 -- a shape, with quartics and answers that are handed in

@@ -6,11 +6,10 @@ use step2_attempt::tried;
 use step2_solver::Limits;
 use step2_solver::PositionThirdOrderStep2;
 ghost use mathlib.Core.Path.{_≡_};
-ghost use mathlib.Core.Bool.{cond};
 ghost use mathlib.Core.List.{[], _∷_};
 ghost use Rattle.profile.specs.Parts.{profileIn, checkedIn};
 ghost use Rattle.step2_attempt.specs.Attempt.{triedOf};
-ghost use Rattle.time_acc0_acc1.specs.TimeAcc0Acc1.{acc0Acc1RestApplies, acc0Acc1Rest, acc0Acc1Uddu};
+ghost use Rattle.time_acc0_acc1.specs.TimeAcc0Acc1.{acc0Acc1Of};
 
 pub fn time_acc0_acc1(
     s: PositionThirdOrderStep2,
@@ -19,14 +18,9 @@ pub fn time_acc0_acc1(
     labels: Labels,
 ) -> Verdict
     ensures { λ r. ⌜ checkedIn (now (x .exit)) r
-        ≡ triedOf l (cond (acc0Acc1RestApplies s) (acc0Acc1Rest s l) (acc0Acc1Uddu s l) ∷ [])
+        ≡ triedOf l (acc0Acc1Of s l ∷ [])
         (profileIn (now (x .entry)) labels) ⌝ }
 {
-    if time_acc0_acc1::rest_applies(s) {
-        let rest = time_acc0_acc1::rest(s, l);
-        tried(rest, l, x, labels)
-    } else {
-        let uddu = time_acc0_acc1::uddu(s, l);
-        tried(uddu, l, x, labels)
-    }
+    let attempt = time_acc0_acc1::attempt(s, l);
+    tried(attempt, l, x, labels)
 }

@@ -12,7 +12,7 @@ use Rattle.row.specs.Row.{part}
 use Rattle.row.proofs.Rows.{part-at, part-long}
 
 -- as many numbers are read as there are places
-module _ (x d : List Float) (k : ℕ) (row : length x ≡ 48) (fits : k + length d ≤ 48) where
+module _ (x d : List Float) (k : ℕ) (fits : k + length d ≤ length x) where
   abbrev of-x : List Float
   of-x = part k (length d) x
 

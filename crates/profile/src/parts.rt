@@ -1,17 +1,15 @@
 // A part of a row, by value.
 use row::NUMBERS;
-use row::whole;
 ghost use mathlib.Core.Path.{_≡_};
 ghost use Prim.Native.Nat.{_+_, _≤_};
 ghost use lib.ListN.{length};
 ghost use Rattle.row.specs.Row.{part};
 
 // As many numbers as there are lent places, from place k of the row on.
-fn get(x: &[f64; NUMBERS], k: usize, some: &mut [f64])
-    requires { ⌜ k + length (now some) ≤ 48 ⌝ }
+fn get(x: &[f64], k: usize, some: &mut [f64])
+    requires { ⌜ k + length (now some) ≤ length (now x) ⌝ }
     ensures { λ _. ⌜ now (some .exit) ≡ part k (length (now (some .entry))) (now (x .entry)) ⌝ }
 {
-    whole(*x);
     for i in 0..some.len() {
         some[i] = x[k + i];
     }

@@ -20,6 +20,7 @@ use Rattle.roots.specs.declared.RootAnswer.the-variants.{CubeRoot, Resol
 use Rattle.positive_set.specs.Set.{sortedOf}
 use Rattle.roots.specs.Quartic.{needOf, chosenOf, factorsOf, quadraticOf, withoutCdOf, withCbrtOf, resolvedOf}
 use Rattle.roots.specs.Quartic.{offeredOf, rootsOf}
+use Rattle.roots.specs.Fits.{Fits64, AnswerFits}
 use Rattle.positive_set.proofs.Sets.{insertAll-length, sorted-length}
 use Rattle.positive_set.proofs.Laws.{Every, every-of-all, every-append, every-insertAll, every-sorted, NotBelow0}
 
@@ -42,9 +43,6 @@ quadratic-cases P eps p q one two none = go (p ⊗ p ⊖ #4 ⊗ q)
 quadratic-length : (eps p q : Float) → length (quadraticOf eps p q) ≤ 2
 quadratic-length eps p q =
     quadratic-cases (λ l. length l ≤ 2) eps p q (λ x. omega arith) (λ x y. omega arith) (omega arith)
-
-abbrev pub Fits64 : Float → Type 0
-Fits64 x = T (fits binary64 x)
 
 quadratic-fits : (eps p q : Float) → Every Fits64 (quadraticOf eps p q)
 quadratic-fits eps p q =
@@ -69,11 +67,6 @@ offered-length a b c d Cube (CubeRoot r) = omega arith
 offered-length a b c d Cube (Resolved n x) = omega arith
 offered-length a b c d Resolvent (CubeRoot r) = omega arith
 offered-length a b c d Resolvent (Resolved n x) = resolved-length a b c d n x
-
--- an answer whose cube root is an f64, as every argument of the code is
-abbrev pub AnswerFits : RootAnswer → Type 0
-AnswerFits (CubeRoot r) = Fits64 r
-AnswerFits (Resolved n x) = Unit {0}
 
 resolved-fits : (a b c d : Float) (count : ℕ) (x : Three) → Every Fits64 (resolvedOf a b c d count x)
 unfolding resolvedOf

@@ -1,1 +1,2 @@
 pub mod Quartic
+pub mod Fits

@@ -24,11 +24,6 @@ pub const VF: usize = 46;
 
 pub const AF: usize = 47;
 
-// A row is 48 numbers long. It is called for that, and no code is left of it.
-pub fn whole(x: [f64; NUMBERS])
-    ensures { λ _. ⌜ length x ≡ 48 ⌝ }
-{}
-
 // All zeros but for where a move begins and where it is to end.
 pub fn start(p0: f64, v0: f64, a0: f64, pf: f64, vf: f64, af: f64) -> [f64; NUMBERS]
     ensures { λ r. ⌜ numbersIn r ≡ startOf p0 v0 a0 pf vf af ⌝ }
@@ -44,8 +39,8 @@ pub fn start(p0: f64, v0: f64, a0: f64, pf: f64, vf: f64, af: f64) -> [f64; NUMB
 }
 
 // Numbers from a place on.
-fn put(x: &mut [f64; NUMBERS], at: usize, some: &[f64])
-    requires { ⌜ at + length (now some) ≤ 48 ⌝ }
+fn put(x: &mut [f64], at: usize, some: &[f64])
+    requires { ⌜ at + length (now some) ≤ length (now x) ⌝ }
     ensures { λ _. ⌜ now (x .exit) ≡ sets (now (x .entry)) at (now (some .entry)) ⌝ }
 {
     for i in 0..some.len() {
@@ -57,21 +52,18 @@ fn put(x: &mut [f64; NUMBERS], at: usize, some: &[f64])
 pub fn set_times(x: &mut [f64; NUMBERS], t: [f64; 7])
     ensures { λ _. ⌜ numbersIn (now (x .exit)) ≡ withTimes t (numbersIn (now (x .entry))) ⌝ }
 {
-    whole(*x);
     put(x, 0, &t);
 }
 
 pub fn set_sums(x: &mut [f64; NUMBERS], t_sum: [f64; 7])
     ensures { λ _. ⌜ numbersIn (now (x .exit)) ≡ withSums «t_sum» (numbersIn (now (x .entry))) ⌝ }
 {
-    whole(*x);
     put(x, T_SUM, &t_sum);
 }
 
 pub fn set_jerks(x: &mut [f64; NUMBERS], j: [f64; 7])
     ensures { λ _. ⌜ numbersIn (now (x .exit)) ≡ withJerks j (numbersIn (now (x .entry))) ⌝ }
 {
-    whole(*x);
     put(x, J, &j);
 }
 
@@ -79,7 +71,6 @@ pub fn set_nodes(x: &mut [f64; NUMBERS], a: [f64; 8], v: [f64; 8], p: [f64; 8])
     ensures { λ _. ⌜ numbersIn (now (x .exit))
         ≡ withNodes (record { a = a; v = v; p = p }) (numbersIn (now (x .entry))) ⌝ }
 {
-    whole(*x);
     put(x, A, &a);
     put(x, V, &v);
     put(x, P, &p);
@@ -88,7 +79,6 @@ pub fn set_nodes(x: &mut [f64; NUMBERS], a: [f64; 8], v: [f64; 8], p: [f64; 8])
 pub fn times(x: &[f64; NUMBERS]) -> [f64; 7]
     ensures { λ r. ⌜ r ≡ numbersIn (now (x .entry)) .t ⌝ }
 {
-    let r = [x[0], x[1], x[2], x[3], x[4], x[5], x[6]];
-    whole(*x);
-    r
+    let all = &x[..];
+    [all[0], all[1], all[2], all[3], all[4], all[5], all[6]]
 }

@@ -1,13 +1,4 @@
 -- No f64 is as near to the exact square root as the one that `sqrtOf` gives (`sqrt-nearest`). Assumes nothing.
---
--- In units of 2 ^ -1074 let R be the result, Y any other f64 that is not negative,
--- and w the number whose root is meant: √w is the exact root (`radicand`).
--- R is nearer to √w than a Y below it exactly where √w is above the middle of the two, (R + Y) / 2,
--- which is where (R + Y)² < 4 * w.
--- R is nearer than a Y above it exactly where √w is below that middle: 4 * w < (R + Y)².
--- Neither is ever an equation, so there is no tie to decide.
--- A negative f64 is farther from √w than its magnitude, and `unitsOf` is the magnitude,
--- so nothing is asked of y's sign.
 use mathlib.Core.Path.{_≡_, sym, ap, _∙_, subst}
 use Prim.Native.Nat.{ℕ, zero, suc, _+_, _-_, _*_, _/_, _^_, _≤_, _<_}
 use native.Mathlib.Nat.{le-trans, le-of-eq, lt-of-lt-of-le, lt-of-le-of-lt, lt-of-not-le, not-le-of-lt, one-mul}
@@ -23,21 +14,13 @@ use lib.Ieee.Exact.{HasValue, units-val}
 use lib.Ieee.Scale.{finite}
 use lib.Ieee.Positive.{positive, positive-of-value}
 use Rattle.sqrt.specs.Sqrt.{root, nearestRoot, unitsOf, radicand, sqrtOf}
+use Rattle.sqrt.specs.Nearest.{NearestTo}
 use Rattle.sqrt.proofs.Squares.{between-squares}
 use Rattle.sqrt.proofs.Root.{root-under, root-largest}
 use Rattle.sqrt.proofs.Rounded.{rounded, nearestRoot-is}
 use Rattle.sqrt.proofs.Units.{InUnits, units-of, units-fits}
 use Rattle.sqrt.proofs.Between.{bracket, Sides, sides, rounded-le, rounded-ge, no-tie, far-below, far-above}
 use Rattle.sqrt.proofs.Cases.{units-pos, sqrt-positive}
-
--- r is an f64 above zero, and nearer to √w units than every other finite f64 y
-pub record NearestTo (w : ℕ) (r : Float) : Type 0 where
-  pub held : T (fits binary64 r)
-  pub above-zero : T (positive r)
-  pub below : (y : Float) → T (fits binary64 y) → T (finite y) → unitsOf y < unitsOf r
-      → (unitsOf r + unitsOf y) * (unitsOf r + unitsOf y) < 4 * w
-  pub above : (y : Float) → T (fits binary64 y) → T (finite y) → unitsOf r < unitsOf y
-      → 4 * w < (unitsOf r + unitsOf y) * (unitsOf r + unitsOf y)
 
 -- ---- how large the root of n * 2 ^ 1074 is, for an f64 of n units
 root-large : (n : ℕ) → 0 < n → 2 ^ 53 ≤ root (n * 2 ^ 1074)

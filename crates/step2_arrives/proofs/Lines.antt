@@ -10,7 +10,7 @@ use Rattle.profile.specs.Boundary.{boundaryOf}
 use Rattle.profile_arrives.specs.Reply.{time, Within}
 use Rattle.profile_arrives.proofs.Steps.{by-seven}
 use Rattle.roots.specs.declared.RootAnswer.{RootAnswer}
-use Rattle.roots.proofs.Laws.{AnswerFits}
+use Rattle.roots.specs.Fits.{AnswerFits}
 use Rattle.step2_solver.specs.declared.Move.{Move}
 use Rattle.step2_solver.specs.declared.Shape.{Shape}
 use Rattle.position_third_step2.specs.Shape.{fresh}

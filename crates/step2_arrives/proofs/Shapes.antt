@@ -16,7 +16,8 @@ use Rattle.roots.specs.declared.RootAnswer.{RootAnswer}
 use Rattle.positive_set.specs.Set.{sortedOf}
 use Rattle.roots.specs.Quartic.{polynomRootsOf}
 use Rattle.positive_set.proofs.Laws.{Every, every-append}
-use Rattle.roots.proofs.Laws.{Fits64, AnswerFits, tried-fit}
+use Rattle.roots.specs.Fits.{Fits64, AnswerFits}
+use Rattle.roots.proofs.Laws.{tried-fit}
 use Rattle.step2_solver.specs.declared.Move.{Move}
 use Rattle.step2_solver.specs.declared.Shape.{Shape}
 use Rattle.step2_solver.specs.declared.Shape.the-variants.{Acc0Acc1Vel, Acc1Vel, Acc0Vel, Acc0Acc1, Acc0}

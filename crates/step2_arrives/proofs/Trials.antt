@@ -13,7 +13,7 @@ use Rattle.labels.specs.declared.ReachedLimits.the-variants.{Acc0Acc1}
 use Rattle.labels.specs.declared.ControlSigns.{ControlSigns}
 use Rattle.labels.specs.declared.ControlSigns.the-variants.{UDDU}
 use Rattle.labels.specs.Tests.{testsOf}
-use Rattle.roots.proofs.Laws.{Fits64}
+use Rattle.roots.specs.Fits.{Fits64}
 use Rattle.step2_solver.specs.declared.PositionThirdOrderStep2.{PositionThirdOrderStep2}
 use Rattle.step2_solver.specs.declared.Limits.{Limits}
 use Rattle.step2_solver.specs.declared.Move.{Move}

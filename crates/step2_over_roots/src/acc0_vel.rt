@@ -8,6 +8,7 @@ use step2_attempt::tried;
 use step2_quartics::Quartics;
 use step2_solver::Limits;
 use step2_solver::PositionThirdOrderStep2;
+use step2_solver::Window;
 ghost use mathlib.Core.Path.{_≡_};
 ghost use mathlib.Core.Bool.{cond};
 ghost use mathlib.Core.List.{[], _++_};
@@ -16,6 +17,29 @@ ghost use Rattle.step2_attempt.specs.Attempt.{triedOf};
 ghost use Rattle.time_acc0_vel.specs.TimeAcc0Vel.{acc0VelTooShort, acc0VelUdduWindow, acc0VelUddu};
 ghost use Rattle.time_acc0_vel.specs.TimeAcc0Vel.{acc0VelUdudWindow, acc0VelUdud};
 ghost use Rattle.step2_over_roots.specs.OverRoots.{overRoots};
+
+// Whether no attempt is made.
+fn too_short(s: PositionThirdOrderStep2, a_max: f64, j_max: f64) -> bool
+    ensures { λ r. ⌜ r ≡ acc0VelTooShort s «a_max» «j_max» ⌝ }
+{
+    s.tf < float::max((-s.a0 + a_max) / j_max, 0.0) + float::max(a_max / j_max, 0.0)
+}
+
+fn uddu_window(s: PositionThirdOrderStep2, l: Limits) -> Window
+    ensures { λ r. ⌜ r ≡ acc0VelUdduWindow s l ⌝ }
+{
+    let t_min = -s.af / l.j_max;
+    let t_max = float::min(s.tf - (2.0 * l.a_max - s.a0) / l.j_max, -l.a_min / l.j_max);
+    Window { t_min, t_max }
+}
+
+fn udud_window(s: PositionThirdOrderStep2, l: Limits) -> Window
+    ensures { λ r. ⌜ r ≡ acc0VelUdudWindow s l ⌝ }
+{
+    let t_min = s.af / l.j_max;
+    let t_max = float::min(s.tf - l.a_max / l.j_max, l.a_max / l.j_max);
+    Window { t_min, t_max }
+}
 
 // Profile UDDU: the roots in their order of trial.
 fn uddu(
@@ -30,7 +54,7 @@ fn uddu(
         ≡ triedOf l (overRoots (acc0VelUddu s l (acc0VelUdduWindow s l)) polynom answer)
         (profileIn (now (x .entry)) labels) ⌝ }
 {
-    let w = time_acc0_vel::uddu_window(s, l);
+    let w = uddu_window(s, l);
     let set = sorted_roots(polynom, answer);
     let count = set.len;
     let roots = set.data;
@@ -62,7 +86,7 @@ fn udud(
         ≡ triedOf l (overRoots (acc0VelUdud s l (acc0VelUdudWindow s l)) polynom answer)
         (profileIn (now (x .entry)) labels) ⌝ }
 {
-    let w = time_acc0_vel::udud_window(s, l);
+    let w = udud_window(s, l);
     let set = sorted_roots(polynom, answer);
     let count = set.len;
     let roots = set.data;
@@ -96,7 +120,7 @@ pub fn time_acc0_vel(
         ++ overRoots (acc0VelUdud s l (acc0VelUdudWindow s l)) (q .udud) second))
         (profileIn (now (x .entry)) labels) ⌝ }
 {
-    if time_acc0_vel::too_short(s, l.a_max, l.j_max) {
+    if too_short(s, l.a_max, l.j_max) {
         return Verdict { ok: false, labels };
     }
     let uddu_quartic = q.uddu;

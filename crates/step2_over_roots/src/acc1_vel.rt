@@ -8,6 +8,7 @@ use step2_attempt::tried;
 use step2_quartics::Quartics;
 use step2_solver::Limits;
 use step2_solver::PositionThirdOrderStep2;
+use step2_solver::Window;
 ghost use mathlib.Core.Path.{_≡_};
 ghost use mathlib.Core.List.{_++_};
 ghost use Rattle.profile.specs.Parts.{profileIn, checkedIn};
@@ -15,6 +16,28 @@ ghost use Rattle.step2_attempt.specs.Attempt.{triedOf};
 ghost use Rattle.time_acc1_vel.specs.TimeAcc1Vel.{acc1VelUdduWindow, acc1VelUddu};
 ghost use Rattle.time_acc1_vel.specs.TimeAcc1Vel.{acc1VelUdudWindow, acc1VelUdud};
 ghost use Rattle.step2_over_roots.specs.OverRoots.{overRoots};
+
+fn uddu_window(s: PositionThirdOrderStep2, l: Limits) -> Window
+    ensures { λ r. ⌜ r ≡ acc1VelUdduWindow s l ⌝ }
+{
+    let t_min = -s.a0 / l.j_max;
+    let t_max = float::min(
+        (s.tf + 2.0 * l.a_min / l.j_max - (s.a0 + s.af) / l.j_max) / 2.0,
+        (l.a_max - s.a0) / l.j_max,
+    );
+    Window { t_min, t_max }
+}
+
+fn udud_window(s: PositionThirdOrderStep2, l: Limits) -> Window
+    ensures { λ r. ⌜ r ≡ acc1VelUdudWindow s l ⌝ }
+{
+    let t_min = -s.a0 / l.j_max;
+    let t_max = float::min(
+        (s.tf + s.ad / l.j_max - 2.0 * l.a_max / l.j_max) / 2.0,
+        (l.a_max - s.a0) / l.j_max,
+    );
+    Window { t_min, t_max }
+}
 
 // Profile UDDU: the roots in their order of trial.
 fn uddu(
@@ -29,7 +52,7 @@ fn uddu(
         ≡ triedOf l (overRoots (acc1VelUddu s l (acc1VelUdduWindow s l)) polynom answer)
         (profileIn (now (x .entry)) labels) ⌝ }
 {
-    let w = time_acc1_vel::uddu_window(s, l);
+    let w = uddu_window(s, l);
     let set = sorted_roots(polynom, answer);
     let count = set.len;
     let roots = set.data;
@@ -61,7 +84,7 @@ fn udud(
         ≡ triedOf l (overRoots (acc1VelUdud s l (acc1VelUdudWindow s l)) polynom answer)
         (profileIn (now (x .entry)) labels) ⌝ }
 {
-    let w = time_acc1_vel::udud_window(s, l);
+    let w = udud_window(s, l);
     let set = sorted_roots(polynom, answer);
     let count = set.len;
     let roots = set.data;

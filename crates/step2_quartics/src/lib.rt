@@ -1,4 +1,6 @@
 // position_third_step2.rs: the quartics of the two shapes that try the roots of one. They are solved elsewhere.
+mod acc0_vel;
+mod acc1_vel;
 
 use step2_solver::Limits;
 use step2_solver::PositionThirdOrderStep2;
@@ -26,18 +28,18 @@ fn acc1_vel_quartics(s: PositionThirdOrderStep2, l: Limits) -> Quartics
     ensures { λ r. ⌜ r ≡ acc1VelQuarticsOf s l ⌝ }
 {
     Quartics {
-        uddu: time_acc1_vel::uddu_polynom(s, l.a_min, l.j_max),
-        udud: time_acc1_vel::udud_polynom(s, l.a_max, l.j_max),
+        uddu: acc1_vel::uddu_polynom(s, l.a_min, l.j_max),
+        udud: acc1_vel::udud_polynom(s, l.a_max, l.j_max),
     }
 }
 
 fn acc0_vel_quartics(s: PositionThirdOrderStep2, l: Limits) -> Quartics
     ensures { λ r. ⌜ r ≡ acc0VelQuarticsOf s l ⌝ }
 {
-    let ph1 = time_acc0_vel::ph1(s, l.a_max, l.j_max);
+    let ph1 = acc0_vel::ph1(s, l.a_max, l.j_max);
     Quartics {
-        uddu: time_acc0_vel::uddu_polynom(s, l.a_max, l.j_max, ph1),
-        udud: time_acc0_vel::udud_polynom(s, l.a_max, l.j_max, ph1),
+        uddu: acc0_vel::uddu_polynom(s, l.a_max, l.j_max, ph1),
+        udud: acc0_vel::udud_polynom(s, l.a_max, l.j_max, ph1),
     }
 }
 

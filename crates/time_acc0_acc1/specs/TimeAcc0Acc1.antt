@@ -1,6 +1,6 @@
 -- What `time_acc0_acc1` computes, by the Rust's names, each operation rounded once in
 -- the Rust's order and brackets, and the attempts made of it. Definitions only.
-use mathlib.Core.Bool.{Bool, _&&_}
+use mathlib.Core.Bool.{Bool, cond, _&&_}
 use lib.Ieee.{Float, neg, lt}
 use Rattle.float.specs.Ops.{_⊕_, _⊖_, _⊗_, _⊘_, #0, #2, #3, #4, #6, #8, #12, #48, #144, #ε}
 use Rattle.float.specs.Helpers.{absOf}
@@ -119,3 +119,7 @@ acc0Acc1Uddu s l =
     let t1 = acc0Acc1UdduT1 s (l .«a_max») (l .«a_min») jf in
     let times = acc0Acc1UdduTimes s (l .«a_max») (l .«a_min») jf t1 in
     trialOf times UDDU Acc0Acc1 jf
+
+-- the one attempt that is made
+abbrev pub acc0Acc1Of : PositionThirdOrderStep2 → Limits → Trial
+acc0Acc1Of s l = cond (acc0Acc1RestApplies s) (acc0Acc1Rest s l) (acc0Acc1Uddu s l)

@@ -12,14 +12,14 @@ ghost use mathlib.Core.Path.{_≡_};
 ghost use Rattle.time_acc0_acc1.specs.TimeAcc0Acc1.{acc0Acc1RestApplies, acc0Acc1RestH1, acc0Acc1RestH2};
 ghost use Rattle.time_acc0_acc1.specs.TimeAcc0Acc1.{acc0Acc1RestT1, acc0Acc1RestTimes, acc0Acc1UdduH1};
 ghost use Rattle.time_acc0_acc1.specs.TimeAcc0Acc1.{acc0Acc1UdduJf, acc0Acc1UdduT1, acc0Acc1UdduTimes};
-ghost use Rattle.time_acc0_acc1.specs.TimeAcc0Acc1.{acc0Acc1Rest, acc0Acc1Uddu};
+ghost use Rattle.time_acc0_acc1.specs.TimeAcc0Acc1.{acc0Acc1Rest, acc0Acc1Uddu, acc0Acc1Of};
 
 // `f64::EPSILON`, 2^-52.
 const EPSILON: f64 = 2.220446049250313e-16;
 
 // Both end accelerations below EPS in size: the rest formula, and no other attempt
 
-pub fn rest_applies(s: PositionThirdOrderStep2) -> bool
+fn rest_applies(s: PositionThirdOrderStep2) -> bool
     ensures { λ r. ⌜ r ≡ acc0Acc1RestApplies s ⌝ }
 {
     (float::abs(s.a0) < EPSILON) & (float::abs(s.af) < EPSILON)
@@ -55,7 +55,7 @@ fn rest_times(s: PositionThirdOrderStep2, a_max: f64, a_min: f64, jf: f64, t1: f
     times_of(t0, t1, t2, t3, t4, t5, t6)
 }
 
-pub fn rest(s: PositionThirdOrderStep2, l: Limits) -> Trial
+fn rest(s: PositionThirdOrderStep2, l: Limits) -> Trial
     ensures { λ r. ⌜ r ≡ acc0Acc1Rest s l ⌝ }
 {
     let h1 = rest_h1(s, l.a_max, l.a_min);
@@ -134,7 +134,7 @@ fn uddu_times(s: PositionThirdOrderStep2, a_max: f64, a_min: f64, jf: f64, t1: f
     times_of(t0, t1, t2, t3, t4, t5, t6)
 }
 
-pub fn uddu(s: PositionThirdOrderStep2, l: Limits) -> Trial
+fn uddu(s: PositionThirdOrderStep2, l: Limits) -> Trial
     ensures { λ r. ⌜ r ≡ acc0Acc1Uddu s l ⌝ }
 {
     let h1 = uddu_h1(s, l.a_max, l.a_min);
@@ -142,4 +142,15 @@ pub fn uddu(s: PositionThirdOrderStep2, l: Limits) -> Trial
     let t1 = uddu_t1(s, l.a_max, l.a_min, jf);
     let times = uddu_times(s, l.a_max, l.a_min, jf, t1);
     trial_of(times, ControlSigns::UDDU, ReachedLimits::Acc0Acc1, jf)
+}
+
+// The one attempt that is made.
+pub fn attempt(s: PositionThirdOrderStep2, l: Limits) -> Trial
+    ensures { λ r. ⌜ r ≡ acc0Acc1Of s l ⌝ }
+{
+    if rest_applies(s) {
+        rest(s, l)
+    } else {
+        uddu(s, l)
+    }
 }

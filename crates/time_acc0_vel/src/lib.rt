@@ -13,59 +13,15 @@ use step2_solver::outside;
 use step2_solver::times_of;
 use step2_solver::trial_of;
 ghost use mathlib.Core.Path.{_≡_};
-ghost use Rattle.time_acc0_vel.specs.TimeAcc0Vel.{acc0VelTooShort, acc0VelPh1, acc0VelUdduPolynom};
 ghost use Rattle.time_acc0_vel.specs.TimeAcc0Vel.{acc0VelUdduOrig, acc0VelUdduDeriv, acc0VelUdduNewton};
-ghost use Rattle.time_acc0_vel.specs.TimeAcc0Vel.{acc0VelUdduH1, acc0VelUdduTimes, acc0VelUdudPolynom};
+ghost use Rattle.time_acc0_vel.specs.TimeAcc0Vel.{acc0VelUdduH1, acc0VelUdduTimes, acc0VelUddu};
 ghost use Rattle.time_acc0_vel.specs.TimeAcc0Vel.{acc0VelUdudOrig, acc0VelUdudDeriv, acc0VelUdudNewton};
-ghost use Rattle.time_acc0_vel.specs.TimeAcc0Vel.{acc0VelUdudH1, acc0VelUdudTimes, acc0VelUdduWindow};
-ghost use Rattle.time_acc0_vel.specs.TimeAcc0Vel.{acc0VelUddu, acc0VelUdudWindow, acc0VelUdud};
+ghost use Rattle.time_acc0_vel.specs.TimeAcc0Vel.{acc0VelUdudH1, acc0VelUdudTimes, acc0VelUdud};
 
 // `f64::EPSILON`, 2^-52.
 const EPSILON: f64 = 2.220446049250313e-16;
 
-// Whether no attempt is made.
-pub fn too_short(s: PositionThirdOrderStep2, a_max: f64, j_max: f64) -> bool
-    ensures { λ r. ⌜ r ≡ acc0VelTooShort s «a_max» «j_max» ⌝ }
-{
-    s.tf < float::max((-s.a0 + a_max) / j_max, 0.0) + float::max(a_max / j_max, 0.0)
-}
-
-pub fn ph1(s: PositionThirdOrderStep2, a_max: f64, j_max: f64) -> f64
-    ensures { λ r. ⌜ r ≡ acc0VelPh1 s «a_max» «j_max» ⌝ }
-{
-    12.0
-        * j_max
-        * (-a_max * a_max * s.vd - j_max * s.vd_vd + 2.0 * a_max * j_max * (-s.pd + s.tf * s.vf))
-}
-
 // Profile UDDU
-
-pub fn uddu_polynom(s: PositionThirdOrderStep2, a_max: f64, j_max: f64, ph1: f64) -> [f64; 4]
-    ensures { λ r. ⌜ r ≡ acc0VelUdduPolynom s «a_max» «j_max» ph1 ⌝ }
-{
-    let polynom0 = (2.0 * a_max) / j_max;
-    let polynom1 = (s.a0_a0 - s.af_af
-        + 2.0 * s.ad * a_max
-        + a_max * a_max
-        + 2.0 * j_max * (s.vd - a_max * s.tf))
-        / s.j_max_j_max;
-    let polynom2 = 0.0;
-    let polynom3 = -(-3.0 * (s.a0_p4 + s.af_p4) + 4.0 * (s.af_p3 + 2.0 * s.a0_p3) * a_max
-        - 12.0 * s.a0 * a_max * (s.af_af - 2.0 * j_max * s.vd)
-        + 6.0 * s.a0_a0 * (s.af_af - a_max * a_max - 2.0 * j_max * s.vd)
-        + 6.0 * s.af_af * (a_max * a_max - 2.0 * a_max * j_max * s.tf + 2.0 * j_max * s.vd)
-        + ph1)
-        / (12.0 * s.j_max_j_max * s.j_max_j_max);
-    [polynom0, polynom1, polynom2, polynom3]
-}
-
-pub fn uddu_window(s: PositionThirdOrderStep2, l: Limits) -> Window
-    ensures { λ r. ⌜ r ≡ acc0VelUdduWindow s l ⌝ }
-{
-    let t_min = -s.af / l.j_max;
-    let t_max = float::min(s.tf - (2.0 * l.a_max - s.a0) / l.j_max, -l.a_min / l.j_max);
-    Window { t_min, t_max }
-}
 
 fn uddu_orig(s: PositionThirdOrderStep2, a_max: f64, j_max: f64, t: f64, h1: f64) -> f64
     ensures { λ r. ⌜ r ≡ acc0VelUdduOrig s «a_max» «j_max» t h1 ⌝ }
@@ -140,32 +96,6 @@ pub fn uddu(s: PositionThirdOrderStep2, l: Limits, w: Window, root: f64) -> Tria
 }
 
 // Profile UDUD
-
-pub fn udud_polynom(s: PositionThirdOrderStep2, a_max: f64, j_max: f64, ph1: f64) -> [f64; 4]
-    ensures { λ r. ⌜ r ≡ acc0VelUdudPolynom s «a_max» «j_max» ph1 ⌝ }
-{
-    let polynom0 = (-2.0 * a_max) / j_max;
-    let polynom1 = -(s.a0_a0 + s.af_af - 2.0 * (s.a0 + s.af) * a_max
-        + a_max * a_max
-        + 2.0 * j_max * (s.vd - a_max * s.tf))
-        / s.j_max_j_max;
-    let polynom2 = 0.0;
-    let polynom3 = (3.0 * (s.a0_p4 + s.af_p4) - 4.0 * (s.af_p3 + 2.0 * s.a0_p3) * a_max
-        + 6.0 * s.a0_a0 * (s.af_af + a_max * a_max + 2.0 * j_max * s.vd)
-        - 12.0 * s.a0 * a_max * (s.af_af + 2.0 * j_max * s.vd)
-        + 6.0 * s.af_af * (a_max * a_max - 2.0 * a_max * j_max * s.tf + 2.0 * j_max * s.vd)
-        - ph1)
-        / (12.0 * s.j_max_j_max * s.j_max_j_max);
-    [polynom0, polynom1, polynom2, polynom3]
-}
-
-pub fn udud_window(s: PositionThirdOrderStep2, l: Limits) -> Window
-    ensures { λ r. ⌜ r ≡ acc0VelUdudWindow s l ⌝ }
-{
-    let t_min = s.af / l.j_max;
-    let t_max = float::min(s.tf - l.a_max / l.j_max, l.a_max / l.j_max);
-    Window { t_min, t_max }
-}
 
 fn udud_orig(s: PositionThirdOrderStep2, a_max: f64, j_max: f64, t: f64, h1: f64) -> f64
     ensures { λ r. ⌜ r ≡ acc0VelUdudOrig s «a_max» «j_max» t h1 ⌝ }

@@ -13,45 +13,14 @@ use step2_solver::outside;
 use step2_solver::times_of;
 use step2_solver::trial_of;
 ghost use mathlib.Core.Path.{_≡_};
-ghost use Rattle.time_acc1_vel.specs.TimeAcc1Vel.{acc1VelUdduPolynom, acc1VelUdduOrig, acc1VelUdduDeriv};
-ghost use Rattle.time_acc1_vel.specs.TimeAcc1Vel.{acc1VelUdduNewton, acc1VelUdduH1, acc1VelUdduTimes};
-ghost use Rattle.time_acc1_vel.specs.TimeAcc1Vel.{acc1VelUdudPolynom, acc1VelUdudH1, acc1VelUdudTimes};
-ghost use Rattle.time_acc1_vel.specs.TimeAcc1Vel.{acc1VelUdduWindow, acc1VelUddu, acc1VelUdudWindow, acc1VelUdud};
+ghost use Rattle.time_acc1_vel.specs.TimeAcc1Vel.{acc1VelUdduOrig, acc1VelUdduDeriv, acc1VelUdduNewton};
+ghost use Rattle.time_acc1_vel.specs.TimeAcc1Vel.{acc1VelUdduH1, acc1VelUdduTimes, acc1VelUddu};
+ghost use Rattle.time_acc1_vel.specs.TimeAcc1Vel.{acc1VelUdudH1, acc1VelUdudTimes, acc1VelUdud};
 
 // `16.0 * f64::EPSILON`, 2^-48.
 const EPSILON_16: f64 = 3.552713678800501e-15;
 
 // Profile UDDU
-
-pub fn uddu_polynom(s: PositionThirdOrderStep2, a_min: f64, j_max: f64) -> [f64; 4]
-    ensures { λ r. ⌜ r ≡ acc1VelUdduPolynom s «a_min» «j_max» ⌝ }
-{
-    let ph1 = s.a0_a0 + s.af_af
-        - a_min * (s.a0 + 2.0 * s.af - a_min)
-        - 2.0 * j_max * (s.vd - a_min * s.tf);
-    let ph2 = 2.0 * a_min * (j_max * s.g1 + s.af * s.vd) - a_min * a_min * s.vd + j_max * s.vd_vd;
-    let ph3 = s.af_af + a_min * (a_min - 2.0 * s.af) - 2.0 * j_max * (s.vd - a_min * s.tf);
-    let polynom0 = (2.0 * (2.0 * s.a0 - a_min)) / j_max;
-    let polynom1 = (4.0 * s.a0_a0 + ph1 - 3.0 * s.a0 * a_min) / s.j_max_j_max;
-    let polynom2 = (2.0 * s.a0 * ph1) / (s.j_max_j_max * j_max);
-    let polynom3 = (3.0 * (s.a0_p4 + s.af_p4) - 4.0 * (s.a0_p3 + 2.0 * s.af_p3) * a_min
-        + 6.0 * s.af_af * (a_min * a_min - 2.0 * j_max * s.vd)
-        + 12.0 * j_max * ph2
-        + 6.0 * s.a0_a0 * ph3)
-        / (12.0 * s.j_max_j_max * s.j_max_j_max);
-    [polynom0, polynom1, polynom2, polynom3]
-}
-
-pub fn uddu_window(s: PositionThirdOrderStep2, l: Limits) -> Window
-    ensures { λ r. ⌜ r ≡ acc1VelUdduWindow s l ⌝ }
-{
-    let t_min = -s.a0 / l.j_max;
-    let t_max = float::min(
-        (s.tf + 2.0 * l.a_min / l.j_max - (s.a0 + s.af) / l.j_max) / 2.0,
-        (l.a_max - s.a0) / l.j_max,
-    );
-    Window { t_min, t_max }
-}
 
 fn uddu_orig(s: PositionThirdOrderStep2, a_min: f64, j_max: f64, t: f64, h0: f64) -> f64
     ensures { λ r. ⌜ r ≡ acc1VelUdduOrig s «a_min» «j_max» t h0 ⌝ }
@@ -135,39 +104,6 @@ pub fn uddu(s: PositionThirdOrderStep2, l: Limits, w: Window, root: f64) -> Tria
 }
 
 // Profile UDUD
-
-pub fn udud_polynom(s: PositionThirdOrderStep2, a_max: f64, j_max: f64) -> [f64; 4]
-    ensures { λ r. ⌜ r ≡ acc1VelUdudPolynom s «a_max» «j_max» ⌝ }
-{
-    let ph1 = s.a0_a0 - s.af_af + (2.0 * s.af - s.a0) * a_max
-        - a_max * a_max
-        - 2.0 * j_max * (s.vd - a_max * s.tf);
-    let ph2 = a_max * a_max + 2.0 * j_max * s.vd;
-    let ph3 = s.af_af + ph2 - 2.0 * a_max * (s.af + j_max * s.tf);
-    let ph4 = 2.0 * a_max * j_max * s.g1 + a_max * a_max * s.vd + j_max * s.vd_vd;
-    let polynom0 = (4.0 * s.a0 - 2.0 * a_max) / j_max;
-    let polynom1 = (4.0 * s.a0_a0 - 3.0 * s.a0 * a_max + ph1) / s.j_max_j_max;
-    let polynom2 = (2.0 * s.a0 * ph1) / (s.j_max_j_max * j_max);
-    let polynom3 = (3.0 * (s.a0_p4 + s.af_p4)
-        - 4.0 * (s.a0_p3 + 2.0 * s.af_p3) * a_max
-        - 24.0 * s.af * a_max * j_max * s.vd
-        + 12.0 * j_max * ph4
-        - 6.0 * s.a0_a0 * ph3
-        + 6.0 * s.af_af * ph2)
-        / (12.0 * s.j_max_j_max * s.j_max_j_max);
-    [polynom0, polynom1, polynom2, polynom3]
-}
-
-pub fn udud_window(s: PositionThirdOrderStep2, l: Limits) -> Window
-    ensures { λ r. ⌜ r ≡ acc1VelUdudWindow s l ⌝ }
-{
-    let t_min = -s.a0 / l.j_max;
-    let t_max = float::min(
-        (s.tf + s.ad / l.j_max - 2.0 * l.a_max / l.j_max) / 2.0,
-        (l.a_max - s.a0) / l.j_max,
-    );
-    Window { t_min, t_max }
-}
 
 fn udud_h1(s: PositionThirdOrderStep2, a_max: f64, j_max: f64, t: f64) -> f64
     ensures { λ r. ⌜ r ≡ acc1VelUdudH1 s «a_max» «j_max» t ⌝ }

@@ -18,7 +18,7 @@ use Rattle.line_questions.specs.Questions.{ask, choicesFit, questionsOf}
 use Rattle.line_reply.specs.Reply.{replyBytesOf}
 use Rattle.line_answers.specs.CheckLine.{checkedOf}
 use Rattle.line_answers.specs.FrameAnswer.{replyOf, frameAnswerOf}
-use Rattle.line_answers.proofs.Replies.{refused, replied}
+use Rattle.line_answers.proofs.Replies.{refused, replied, filled}
 use Rattle.line_answers.proofs.check_line.check_line.Statement.{statement}
 use Rattle.line_answers.proofs.check_line.check_line.Tie as tie
 
@@ -70,7 +70,7 @@ returns-4 c =
     let k = c .before .before in let i3 = k .before .before .before in let i2 = i3 .before in let i = first i2 in
     replied (replyOf OfCheck (at i)) (lent i) _
     (fits i, (read i2 .0, (le-leb recordPlaces (length (lent i)) (i3 .if3 .left), tt))) _
-    (k .check-reply .ensures
+    (filled recordPlaces _ (lent i) _ (k .check-reply .result) (i3 .if3 .left) (k .check-reply .ensures)
     ∙ ap (λ (x : CheckNumbers). fill (hexOf (replyBytesOf (checkedOf x (at i)))) (lent i)) (read i2 .1))
 
 pub check-line-spec : {M : Type 1} → statement M

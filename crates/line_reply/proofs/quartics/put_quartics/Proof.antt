@@ -12,7 +12,7 @@ returns c =
     let f = c .before .before in
     let s = f .before .before in
     rw (c .put-quartic2 .ensures, f .put-quartic .ensures)
-    (both (quarticBytes (s .args .uddu)) (quarticBytes (s .args .udud)) (s .args .bytes .now) 57 refl (s .pre))
+    (both (quarticBytes (s .args .uddu)) (quarticBytes (s .args .udud)) (s .args .bytes .now) 57 refl (search needs))
 
 pub put-quartics-spec : {M : Type 1} → statement M
 put-quartics-spec = tie.close (tie.spec (λ c κs. search needs) (λ c κs. search needs) returns)

@@ -20,30 +20,28 @@ abbrev μ-loop : tie.MeasureT-loop
 
 loop-holds : tie.Need-loop-holds Inv-loop μ-loop
 loop-holds c =
-    let q = c .before .before .before in
-    let x = q .args .x .now in let some = q .args .some .now in
-    (omega arith, refl, refl, none-read x some (q .args .k) (c .whole .ensures) (q .pre))
+    (omega arith, refl, refl, none-read (c .args .x .now) (c .args .some .now) (c .args .k) (c .pre))
 
 loop-again : tie.Need-loop-again Inv-loop μ-loop
 loop-again c =
-    let l = c .before .before in let w = l .before in let q = w .before .before .before in
+    let l = c .before .before in let q = l .before in
     let more : l .loop .i < length (q .args .some .now) = omega arith in (
       omega arith,
       l .loop .inv .1,
       simp length-set (l .loop .inv .2),
-      one-read (q .args .x .now) (q .args .some .now) (q .args .k) (w .whole .ensures) (q .pre) (l .loop .some)
+      one-read (q .args .x .now) (q .args .some .now) (q .args .k) (q .pre) (l .loop .some)
           (l .loop .i) more (l .loop .inv .3),
     )
 
 returns : tie.Need-returns Inv-loop μ-loop
 returns c =
-    let l = c .before in let w = l .before in let q = w .before .before .before in
-    all-read (q .args .x .now) (q .args .some .now) (q .args .k) (w .whole .ensures) (q .pre) (l .loop .some)
+    let l = c .before in let q = l .before in
+    all-read (q .args .x .now) (q .args .some .now) (q .args .k) (q .pre) (l .loop .some)
     (l .loop .i) (omega arith) (l .loop .inv .3)
 
 pub get-spec : {M : Type 1} → statement M
 get-spec =
     tie.close
-    (tie.spec Inv-loop μ-loop (λ c κs. tt) loop-holds (λ c. search needs) (λ c. search needs) (λ c. search needs)
+    (tie.spec Inv-loop μ-loop loop-holds (λ c. search needs) (λ c. search needs) (λ c. search needs)
     (λ c. search needs) (λ c. search needs) (λ c. search needs) (λ c. search needs) loop-again (λ c. search needs)
     returns)

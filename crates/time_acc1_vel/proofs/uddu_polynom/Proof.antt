@@ -1,9 +1,0 @@
--- `uddu_polynom` is `acc1VelUdduPolynom`: the same operations in the same order. Assumes nothing.
-use mathlib.Core.Path.{refl}
-use Rattle.time_acc1_vel.specs.TimeAcc1Vel.{acc1VelUdduPolynom}
-use Rattle.time_acc1_vel.proofs.uddu_polynom.Statement.{statement}
-use Rattle.time_acc1_vel.proofs.uddu_polynom.Tie as tie
-
-pub uddu-polynom-spec : {M : Type 1} → statement M
-unfolding acc1VelUdduPolynom
-uddu-polynom-spec = tie.close (tie.spec (λ c. refl))
