@@ -1,5 +1,6 @@
 //! A million square roots: the proved one through the static library, Rust's own,
 //! and portable ones in Rust. Every result is compared first.
+//! With the words `compare SEED COUNT`: so many numbers of all sorts, compared with Rust's own and not timed.
 
 mod portable;
 mod timing;
@@ -75,7 +76,47 @@ fn measure(title: &str, numbers: &[f64]) {
     timing::print(title, &NAMES, &times, 0);
 }
 
+/// A NaN of any sign and payload is one NaN.
+fn bits(x: f64) -> u64 {
+    if x.is_nan() {
+        f64::NAN.to_bits()
+    } else {
+        x.to_bits()
+    }
+}
+
+/// Any pattern at all, a number below the smallest normal one, or a square's neighbour or itself, times a power of
+/// four: roots that are nearly halfway between two f64s lie there.
+fn some(random: &mut Random, turn: u64) -> f64 {
+    let any = random.bits();
+    match turn % 3 {
+        0 => f64::from_bits(any),
+        1 => f64::from_bits(any >> 12),
+        _ => {
+            let root = (any >> 37) as f64;
+            let near = f64::from_bits((root * root).to_bits().wrapping_add(any % 3).wrapping_sub(1));
+            near * f64::powi(4.0, (any >> 5) as i32 % 400 - 200)
+        }
+    }
+}
+
+fn compare(seed: u64, count: u64) {
+    let mut random = Random(seed);
+    for turn in 0..count {
+        let x = some(&mut random, turn);
+        assert_eq!(bits(proved(x)), bits(x.sqrt()), "root of {:016X}", x.to_bits());
+    }
+    println!("{count} square roots, seed {seed}: no difference from Rust's");
+}
+
 fn main() {
+    let words: Vec<String> = std::env::args().collect();
+    if let [_, word, seed, count] = &words[..] {
+        if word == "compare" {
+            let number = |word: &String| word.parse().expect("a number");
+            return compare(number(seed), number(count));
+        }
+    }
     let mut random = Random(1);
     let mut numbers = |low: u64, high: u64| -> Vec<f64> {
         (0..CALLS).map(|_| f64::from_bits(low + random.bits() % (high - low))).collect()
