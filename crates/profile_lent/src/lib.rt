@@ -21,7 +21,8 @@ pub fn set_boundary(
         ≡ boundaryOf «p0_new» «v0_new» «a0_new» «pf_new» «vf_new» «af_new» (now (p .entry)) ⌝ }
 {
     let q = *p;
-    *p = q.set_boundary(p0_new, v0_new, a0_new, pf_new, vf_new, af_new);
+    let r = q.set_boundary(p0_new, v0_new, a0_new, pf_new, vf_new, af_new);
+    *p = r;
 }
 
 pub fn check(
