@@ -17,6 +17,7 @@ list() {
 list sqrt 5000
 list roots 4000
 list integrate 2000
+list profile 2000
 list kind00 3000
 list shapes 4000
 list broken 1000

@@ -3,13 +3,14 @@
 //!
 //!   lists KIND SEED COUNT INPUT OUTPUT
 //!
-//! KIND is one of sqrt, cmath, roots, integrate, kind00, shapes, broken. `cmath`
-//! takes its cases from CPython's published test vectors and ignores SEED and
+//! KIND is one of sqrt, cmath, roots, integrate, profile, kind00, shapes, broken.
+//! `cmath` takes its cases from CPython's published test vectors and ignores SEED and
 //! COUNT.
 
 mod cmath;
 mod integrate;
 mod lines;
+mod profile;
 mod roots;
 mod sqrt;
 
@@ -66,6 +67,7 @@ fn main() {
         "cmath" => cmath::fill(&mut lists),
         "roots" => roots::fill(&mut lists, &mut random, count),
         "integrate" => integrate::fill(&mut lists, &mut random, count),
+        "profile" => profile::fill(&mut lists, &mut random, count),
         "kind00" => lines::fill(&mut lists, &mut random, count, lines::check),
         "shapes" => lines::fill(&mut lists, &mut random, count, lines::shape),
         "broken" => lines::fill(&mut lists, &mut random, count, lines::broken),

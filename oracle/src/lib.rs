@@ -8,7 +8,7 @@ pub mod digits;
 pub mod frame;
 pub mod kinds;
 pub mod quartics;
-mod reply;
+pub mod reply;
 pub mod shapes;
 
 pub use answer::{answer, answer_line};

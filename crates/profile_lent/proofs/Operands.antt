@@ -152,7 +152,9 @@ module _ {M : Type 1} {𝓤 : URA M} {H : Heap 𝓤} {A : Atoms 𝓤} {K : Type 
       → Opd K W Γ E x v
   reads t ss rs {x} v e = operand t ss rs x v e
 
-  -- the operands of a call read vs, which the locals from i on hold
-  pub hands : K → (n i : ℕ) (us : List Val) → Cells K W Γ E n i us → {xs : List Operand} (vs : List Val)
-      → map (value (wholes i us)) xs ≡ map some vs → Opds K W Γ E xs vs
-  hands t n i us es {xs} vs e = operands t (wholes i us) (locals-at K W Γ E n i us t es) xs vs e
+  -- the operands of a call read vs, which the locals from i on and the local j hold
+  pub hands : K → (n i : ℕ) (us : List Val) → Cells K W Γ E n i us → (m j : ℕ) (u : Val)
+      → nth 𝓤 H A m Γ ≡ ‵ (fat fullShare (spotOf 𝓤 H E j .0) (spotOf 𝓤 H E j .1) 0 u) → {xs : List Operand}
+      (vs : List Val) → map (value (whole-of j u ∷ wholes i us)) xs ≡ map some vs → Opds K W Γ E xs vs
+  hands t n i us es m j u e {xs} vs is =
+      operands t (whole-of j u ∷ wholes i us) (local-at K W Γ E m j u t e, locals-at K W Γ E n i us t es) xs vs is

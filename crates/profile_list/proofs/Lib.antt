@@ -1,0 +1,2 @@
+-- What lends a record that is a local.
+pub mod Lending

@@ -1,0 +1,178 @@
+//! Functions that no line reaches. In: the bytes of a kind 00 frame with j_max and tf
+//! after them, the first byte saying what is called: 00 `set_boundary`, `check` and
+//! then `check_with_timing` on what `check` left, 01 `check_with_timing`, 02
+//! `check_with_timing_full`; or 03 and a number, for `is_finite`. Out: the record of
+//! each call as in a line's reply, after the verdict; or 00 or 01.
+
+use crate::{bits, Lists};
+use cases::any_line;
+use cases::kinds::{Asks, Kind};
+use cases::line::Line;
+use cases::numbers::{any_finite, anything, edge, not_finite, ordinary, step};
+use cases::random::Random;
+use oracle::check::{LABELS, SIGNS};
+use oracle::{digits, frame, reply};
+use rsruckig::profile::{ControlSigns, Profile, ReachedLimits};
+
+/// J_EPS of the Rust.
+const TOLERANCE: f64 = 1e-12;
+
+/// The numbers that are asked to be finite, by their bits.
+const EDGES: [u64; 16] = [
+    0x0000_0000_0000_0000,
+    0x8000_0000_0000_0000,
+    0x0000_0000_0000_0001,
+    0x8000_0000_0000_0001,
+    0x000F_FFFF_FFFF_FFFF,
+    0x0010_0000_0000_0000,
+    0x7FEF_FFFF_FFFF_FFFF,
+    0xFFEF_FFFF_FFFF_FFFF,
+    0x7FF0_0000_0000_0000,
+    0xFFF0_0000_0000_0000,
+    0x7FF0_0000_0000_0001,
+    0xFFF0_0000_0000_0001,
+    0x7FF8_0000_0000_0000,
+    0xFFF8_0000_0000_0000,
+    0x7FFF_FFFF_FFFF_FFFF,
+    0xFFFF_FFFF_FFFF_FFFF,
+];
+
+/// By turns, half of them on lines that `check` says yes to.
+pub fn fill(lists: &mut Lists, random: &mut Random, count: usize) {
+    for edge in EDGES {
+        push_finite(lists, f64::from_bits(edge));
+    }
+    while lists.count < count {
+        let yes = lists.count / 5 % 2 == 0;
+        match lists.count % 5 {
+            0 | 1 => push_record(lists, random, 0, yes),
+            2 => push_record(lists, random, 1, yes),
+            3 => push_record(lists, random, 2, yes),
+            _ => push_finite(lists, number(random)),
+        }
+    }
+}
+
+fn number(random: &mut Random) -> f64 {
+    match random.below(4) {
+        0 => not_finite(random),
+        1 => edge(random),
+        2 => any_finite(random),
+        // Any fraction under the exponent of the NaNs.
+        _ => f64::from_bits(random.bits() | 0x7FF0_0000_0000_0000),
+    }
+}
+
+fn push_finite(lists: &mut Lists, number: f64) {
+    let answer = if number.is_finite() { "01" } else { "00" };
+    lists.push(&format!("03{}", bits(number)), answer);
+}
+
+/// What a line of kind 00 says.
+struct Asked {
+    bytes: [u8; frame::LONGEST],
+    numbers: [f64; 11],
+}
+
+impl Asked {
+    fn new(characters: &[u8]) -> Self {
+        let mut bytes = [0; frame::LONGEST];
+        assert!(digits::read(characters, &mut bytes));
+        let numbers = frame::numbers(&bytes, frame::CHECK_NUMBERS);
+        Asked { bytes, numbers }
+    }
+
+    fn labels(&self) -> (ControlSigns, ReachedLimits) {
+        let [_, signs, label, ..] = self.bytes;
+        (SIGNS[signs as usize], LABELS[label as usize])
+    }
+
+    fn profile(&self) -> Profile {
+        let [p0, v0, a0, pf, vf, af, ..] = self.numbers;
+        let mut profile = Profile::default();
+        profile.set_boundary(p0, v0, a0, pf, vf, af);
+        profile.t = frame::numbers(&self.bytes, frame::CHECK_TIMES);
+        profile
+    }
+
+    fn sets_limits(&self) -> bool {
+        self.bytes[3] == 1
+    }
+
+    fn check(&self, profile: &mut Profile, set_limits: bool) -> bool {
+        let [.., jf, v_max, v_min, a_max, a_min] = self.numbers;
+        let (signs, label) = self.labels();
+        profile.check(signs, label, set_limits, jf, v_max, v_min, a_max, a_min)
+    }
+
+    fn check_with_timing(&self, profile: &mut Profile) -> bool {
+        let [.., jf, v_max, v_min, a_max, a_min] = self.numbers;
+        let (signs, label) = self.labels();
+        profile.check_with_timing(signs, label, jf, v_max, v_min, a_max, a_min)
+    }
+
+    fn check_full(&self, profile: &mut Profile, j_max: f64, tf: f64) -> bool {
+        let [.., jf, v_max, v_min, a_max, a_min] = self.numbers;
+        let (signs, label) = self.labels();
+        profile.check_with_timing_full(signs, label, tf, jf, v_max, v_min, a_max, a_min, j_max)
+    }
+}
+
+fn push_record(lists: &mut Lists, random: &mut Random, what: u8, yes: bool) {
+    let mut line = Line::default();
+    let asked = loop {
+        any_line::accepted(random, Kind::asking(Asks::Check), &mut line);
+        let asked = Asked::new(&line.characters);
+        let set_limits = what == 0 && asked.sets_limits();
+        if asked.check(&mut asked.profile(), set_limits) == yes {
+            break asked;
+        }
+    };
+    let j_max = limit(random, asked.numbers[6]);
+    let tf = if random.once_in(4) { anything(random) } else { ordinary(random).abs() };
+    line.characters[1] = b'0' + what;
+    line.numbers(&[j_max, tf]);
+
+    let mut profile = asked.profile();
+    let mut output = Vec::new();
+    match what {
+        0 => {
+            let ok = asked.check(&mut profile, asked.sets_limits());
+            write(ok, &profile, &mut output);
+            let again = asked.check_with_timing(&mut profile);
+            write(again, &profile, &mut output);
+        }
+        1 => {
+            let ok = asked.check_with_timing(&mut profile);
+            write(ok, &profile, &mut output);
+        }
+        _ => {
+            let ok = asked.check_full(&mut profile, j_max, tf);
+            write(ok, &profile, &mut output);
+        }
+    }
+    lists.push_bytes(&line.characters, &output);
+}
+
+fn write(yes: bool, profile: &Profile, output: &mut Vec<u8>) {
+    let mut places = [0; frame::RECORD_PLACES];
+    reply::write(yes, profile, &mut places);
+    output.extend_from_slice(&places);
+}
+
+/// A limit of the jerk: mostly where the tolerance ends, or a step to either side.
+fn limit(random: &mut Random, jf: f64) -> f64 {
+    let size = match random.below(8) {
+        0 => return anything(random),
+        1 => jf.abs() + random.unit(),
+        2 => 0.0,
+        _ => {
+            let wanted = step(jf.abs(), random.below(3) as i64 - 1);
+            (-8..=8)
+                .map(|steps| step(jf.abs() - TOLERANCE, steps).abs())
+                .find(|size| size + TOLERANCE == wanted)
+                .unwrap_or(jf.abs())
+        }
+    };
+    size * random.sign()
+}
