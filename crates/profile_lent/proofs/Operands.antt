@@ -12,7 +12,7 @@ use mir.Facts.{and-yes}
 use mir.Syntax.{Step, deref, field, variant, Place, place, Opd as Operand, copy, int, intNeg, intBig, float, opdTrue}
 use mir.Syntax.{opdFalse, opdUnit, ptrConst}
 use mir.Val.{Val, vunit, vbool}
-use base.Fml.{Share, fat}
+use base.Fml.{fat}
 use prog.Wp.{Heap, Env, spotOf}
 use ghost.Atoms.{Atoms}
 use types.Kit.{Given, Item, nth, ‵}
