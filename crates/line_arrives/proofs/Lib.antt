@@ -6,4 +6,3 @@ pub mod Agreeing
 pub mod Carried
 pub mod Answered
 pub mod Theorem
-pub mod Worked

@@ -1,2 +1,1 @@
 pub mod LineArrives
-pub mod Worked

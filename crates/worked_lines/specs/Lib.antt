@@ -1,0 +1,3 @@
+pub mod Attempts
+pub mod Lines
+pub mod Worked
