@@ -3,7 +3,7 @@
 use mathlib.Core.Bool.{cond}
 use mathlib.Core.List.{List, [], _∷_, _++_}
 use mathlib.Core.Path.{_≡_}
-use Prim.Native.Nat.{ℕ, suc, _+_, _≤_}
+use Prim.Native.Nat.{ℕ, suc, _+_, _*_, _≤_}
 use lib.Dec.{eqb, leb}
 use lib.ListN.{length, take}
 use Rattle.hex.specs.Hex.{fill}
@@ -21,6 +21,20 @@ pub record Progress (S : Type 0) : Type 0 where
   pub kept : List ℕ
   pub state : S
   pub written : List ℕ
+
+-- where a call starts: with a state and what is kept of a line that has begun
+abbrev pub start : {S : Type 0} → S → List ℕ → Progress S
+start s kept = record { used = 0; kept = kept; state = s; written = [] }
+
+-- one call and then another: what both used and wrote, and what the second left
+abbrev pub followed : {S : Type 0} → Progress S → Progress S → Progress S
+followed p q =
+    record {
+      used = p .used + q .used;
+      kept = q .kept;
+      state = q .state;
+      written = p .written ++ q .written;
+    }
 
 -- A way to answer lines: what a line does in a state; the most characters of a text; and the longest line that is
 -- answered by all its characters.
@@ -63,15 +77,31 @@ module _ {S : Type 0} (way : Answering S) where
         written = p .written;
       })
 
+  -- characters one after the other
+  unfoldable pub blockFrom : Progress S → List ℕ → Progress S
+  blockFrom p [] = p
+  blockFrom p (c ∷ block) = blockFrom (step p c) block
+
+  -- a block as a whole
+  abbrev pub blockOf : S → List ℕ → List ℕ → Progress S
+  blockOf s kept block = blockFrom (start s kept) block
+
+  -- blocks one after the other, each from the state and the line that the one before left
+  abbrev pub blocksOf : S → List ℕ → List (List ℕ) → Progress S
+  blocksOf s kept [] = start s kept
+  blocksOf s kept (block ∷ blocks) =
+      let p = blockOf s kept block in
+      followed p (blocksOf (p .state) (p .kept) blocks)
+
   -- characters one after the other, as long as the room holds another text
   unfoldable pub streamFrom : ℕ → Progress S → List ℕ → Progress S
   streamFrom room p [] = p
   streamFrom room p (c ∷ input) =
       cond (leb (length (p .written) + way .textMost) room) (streamFrom room (step p c) input) p
 
-  -- one call
+  -- one call with some room
   abbrev pub streamOf : ℕ → S → List ℕ → List ℕ → Progress S
-  streamOf room s kept input = streamFrom room (record { used = 0; kept = kept; state = s; written = [] }) input
+  streamOf room s kept input = streamFrom room (start s kept) input
 
 -- A call's outcome is p: its numbers, the first `count` places of `kept`, and the whole of the lent output.
 -- What `kept` holds past `count` is left open: nothing reads it.
@@ -98,3 +128,7 @@ module _ {S : Type 0} (way : Answering S) where
 pub record Holds {S : Type 0} (way : Answering S) : Type 0 where
   pub text-most : (s : S) (line : List ℕ) → length (way .answer s line .text) ≤ way .textMost
   pub kept-same : (s : S) (line : List ℕ) → way .answer s (take (keptMost way) line) ≡ way .answer s line
+
+-- No text has more than k characters for each character of its line, the line feed counted.
+abbrev pub Spreads : {S : Type 0} → Answering S → ℕ → Type 0
+Spreads {S} way k = (s : S) (line : List ℕ) → length (way .answer s line .text) ≤ k * suc (length line)

@@ -2,7 +2,7 @@
 use mathlib.Core.Path.{_≡_, refl}
 use mathlib.Core.Bool.{Bool, true, false, cond}
 use mathlib.Core.List.{List, [], _∷_}
-use Prim.Native.Nat.{ℕ, _≤_}
+use Prim.Native.Nat.{ℕ, _*_, _≤_}
 use lib.Dec.{eqb, lit≤}
 use Rattle.line_kinds.specs.declared.Row.{Row}
 use Rattle.line_kinds.specs.Kinds.{Kind, kinds, rowIn, rowOf, frameMost, replyMost, placesOf}
@@ -25,23 +25,28 @@ module _ (P : Row → Type 0) (none : (n : ℕ) → P (rowIn [] n)) where
   unfolding rowOf
   every-row h n = each-in kinds h n
 
--- the places are those of what is asked, and no row is above the sizes
+-- The places are those of what is asked, and no row is above the sizes; a reply has at most four characters for each of
+-- its line's, which are two a byte.
 abbrev pub Sound : Row → Type 0
-Sound r = (r .places ≡ placesOf (r .asks)) × (r .bytes ≤ frameMost) × (r .places ≤ replyMost)
+Sound r =
+    (r .places ≡ placesOf (r .asks))
+    × (r .bytes ≤ frameMost)
+    × (r .places ≤ replyMost)
+    × (r .places ≤ 4 * (2 * r .bytes))
 
 pub sound : (n : ℕ) → Sound (rowOf n)
 sound =
-    every-row Sound (λ n. (refl, lit≤ tt, lit≤ tt)) (
-      (refl, lit≤ tt, lit≤ tt),
+    every-row Sound (λ n. (refl, lit≤ tt, lit≤ tt, lit≤ tt)) (
+      (refl, lit≤ tt, lit≤ tt, lit≤ tt),
       (
-        (refl, lit≤ tt, lit≤ tt),
+        (refl, lit≤ tt, lit≤ tt, lit≤ tt),
         (
-          (refl, lit≤ tt, lit≤ tt),
+          (refl, lit≤ tt, lit≤ tt, lit≤ tt),
           (
-            (refl, lit≤ tt, lit≤ tt),
+            (refl, lit≤ tt, lit≤ tt, lit≤ tt),
             (
-              (refl, lit≤ tt, lit≤ tt),
-              ((refl, lit≤ tt, lit≤ tt), ((refl, lit≤ tt, lit≤ tt), ((refl, lit≤ tt, lit≤ tt), tt))),
+              (refl, lit≤ tt, lit≤ tt, lit≤ tt),
+              ((refl, lit≤ tt, lit≤ tt, lit≤ tt), ((refl, lit≤ tt, lit≤ tt, lit≤ tt), ((refl, lit≤ tt, lit≤ tt, lit≤ tt), tt))),
             ),
           ),
         ),

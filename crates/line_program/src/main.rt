@@ -1,92 +1,65 @@
 // The line program: each line of standard input gets its reply, or its refusal in two decimal digits, each ended by a
 // line feed.
-// What is written for which input is `line_stream`'s; here blocks are read and written.
 use libc::STDIN_FILENO;
 use libc::STDOUT_FILENO;
 use line_stream::KEPT;
 use line_stream::ROOM;
-ghost use Prim.Native.Nat.{_≤_};
-ghost use lib.ListN.{length};
-ghost use Rattle.line_stream.specs.Output.{answerMost};
+use line_stream::Streamed;
+ghost use lib.ListN.{length, take};
+ghost use Rattle.io.specs.Counts.{clamped};
+ghost use Rattle.line_cut.specs.Stream.{Streams};
+ghost use Rattle.line_stream.specs.Output.{turnOf};
 
-// The characters kept of a line that has begun, and whether all that was answered is written.
-struct Answered {
+// The characters that are read at once, and room for their answers: an answer has at most four characters for each of
+// its line's with the line feed; the first may be to a line that began earlier, and `stream` wants room for one more.
+const BLOCK: usize = 65536;
+
+const OUT: usize = 4 * BLOCK + 2 * ROOM;
+
+// Answers the lines that end in what a read gave: `got` is what it said, of the block that it was lent.
+fn turn(
+    got: isize,
+    block: &[u8; BLOCK],
+    kept: &mut [u8; KEPT],
     count: usize,
-    is_written: bool,
-}
-
-// Answers the lines that end in `input`, and writes the answers a block at a time.
-fn answer(input: &[u8], kept: &mut [u8; KEPT], count: usize, out: &mut [u8]) -> Answered
-    requires { ⌜ answerMost ≤ length (now out) ⌝ }
+    out: &mut [u8; OUT],
+) -> Streamed
+    ensures { λ r. ⌜
+        Streams
+        (turnOf (take count (now (kept .entry))) (take (clamped got (length (now (block .entry)))) (now (block .entry))))
+        (r .used) (r .count) (r .filled) (now (kept .exit)) (now (out .entry)) (now (out .exit))
+        ⌝ }
 {
-    let mut count = count;
-    let mut at = 0;
-    while at < input.len() {
-        let s = line_stream::stream(&input[at..], kept, count, out);
-        let filled = s.filled;
-        count = s.count;
-        at += s.used;
-        if !io::write_all(STDOUT_FILENO, &out[..filled]) {
-            return Answered {
-                count: count,
-                is_written: false,
-            };
-        }
-    }
-    Answered {
-        count: count,
-        is_written: true,
-    }
+    let block: &[u8] = block;
+    let n = io::count(got, block);
+    line_stream::stream(&block[..n], kept, count, out)
 }
 
-// The characters kept of a line that has begun, and whether the input came to its end.
-struct Ended {
-    count: usize,
-    is_whole: bool,
-}
-
-// Reads to the end of the input, or to the first read or write that fails. A proved loop has to end, and nothing says
-// that the input does: so the turns are counted down, from a number that no run uses up.
-fn run(block: &mut [u8], kept: &mut [u8; KEPT], out: &mut [u8]) -> Ended
-    requires { ⌜ answerMost ≤ length (now out) ⌝ }
-{
+// Reads to the end of the input, or to the first read or write that fails. A line that has begun is answered where the
+// input ends. After a read that failed it is not: more of it may stand in the input. A proved loop has to end, and
+// nothing says that the input does: so the turns are counted down, from a number that no run uses up.
+fn main() {
+    let mut block = [0u8; BLOCK];
+    let mut kept = [0u8; KEPT];
+    let mut out = [0u8; OUT];
+    let mut last = [0u8; ROOM];
     let mut count = 0;
     let mut turns = u64::MAX;
     while turns > 0 {
-        let got = libc::read(STDIN_FILENO, block);
+        let got = libc::read(STDIN_FILENO, &mut block);
         if got <= 0 {
-            return Ended {
-                count: count,
-                is_whole: got == 0,
-            };
+            if got == 0 {
+                let n = line_stream::finish(&kept, count, &mut last);
+                io::write_all(STDOUT_FILENO, &last[..n]);
+            }
+            return;
         }
-        let n = io::count(got, block);
-        let a = answer(&block[..n], kept, count, out);
-        count = a.count;
-        if !a.is_written {
-            return Ended {
-                count: count,
-                is_whole: false,
-            };
+        let t = turn(got, &block, &mut kept, count, &mut out);
+        let filled = t.filled;
+        if !io::write_all(STDOUT_FILENO, &out[..filled]) {
+            return;
         }
+        count = t.count;
         turns -= 1;
-    }
-    Ended {
-        count: count,
-        is_whole: false,
-    }
-}
-
-// A line that has begun is answered where the input ends. After a read that failed it is not: more of it may stand in
-// the input.
-fn main() {
-    let mut block = io::large_buffer();
-    let mut out = io::large_buffer();
-    let mut kept = [0u8; KEPT];
-    let ended = run(&mut block, &mut kept, &mut out);
-    if ended.is_whole {
-        let mut last = [0u8; ROOM];
-        let n = line_stream::finish(&kept, ended.count, &mut last);
-        io::write_all(STDOUT_FILENO, &last[..n]);
     }
 }

@@ -1,10 +1,10 @@
--- Over any calls of `stream`, each going on where the one before stopped, the outputs one after the other are those of
--- the whole input: the law of line_cut's Whole.antt, since what is kept of a line gets the line's own answer.
--- Assumes nothing.
+-- Over any blocks, and over any calls of `stream`, each going on where the one before stopped, the outputs one after the
+-- other are those of the whole input: the law of line_cut's Whole.antt, since what is kept of a line gets the line's own
+-- answer. Assumes nothing.
 use mathlib.Core.Path.{_≡_, refl, ap, sym, _∙_}
 use mathlib.Core.Bool.{Bool, true, false}
-use mathlib.Core.List.{List, [], _∷_, _++_}
-use Prim.Native.Nat.{ℕ, _≤_, _<_}
+use mathlib.Core.List.{List, [], _∷_, _++_, flatten}
+use Prim.Native.Nat.{ℕ, _+_, _*_, _≤_, _<_}
 use native.Mathlib.Omega.{arith}
 use lib.Dec.{leb}
 use lib.ListN.{length, take, replicate}
@@ -13,9 +13,11 @@ use borrow.Author.Tests.{leb-true, leb-false}
 use Rattle.line_kinds.specs.Kinds.{lineMost, replyMost}
 use Rattle.lines.specs.Answer.{answerOf, Outcome, outcomeOf}
 use Rattle.line_cut.specs.Stream.{LineAnswer, keptMost, Calls, Holds}
+use Rattle.line_cut.proofs.Taken.{whole-block}
 use Rattle.line_cut.proofs.Whole as any
-use Rattle.line_stream.specs.Output.{textOf, lineOutput, lineWay, outputOf, lastOutput}
-use Rattle.line_stream.proofs.Answers.{output-most}
+use Rattle.line_stream.specs.Output.{answerMost, textOf, lineOutput, lineWay, outputOf, turnOf, turnsOf, callOf}
+use Rattle.line_stream.specs.Output.{lastOutput}
+use Rattle.line_stream.proofs.Answers.{output-most, output-spread}
 use Rattle.line_stream.proofs.FirstQuestion.{too-long}
 
 pub first-refusal : (line : List ℕ) → answerOf line (replicate replyMost 0) .number ≡ 1
@@ -58,3 +60,13 @@ pub whole : {input output kept : List ℕ} → Calls lineWay tt [] input output 
     → output ++ lastOutput kept ≡ outputOf input
 unfolding outputOf
 whole calls = ap (λ (a : LineAnswer (Unit {0})). a .text) (any.whole lineWay holds calls)
+
+pub whole-blocks : (blocks : List (List ℕ))
+    → turnsOf blocks .written ++ lastOutput (turnsOf blocks .kept) ≡ outputOf (flatten blocks)
+unfolding outputOf
+whole-blocks blocks = ap (λ (a : LineAnswer (Unit {0})). a .text) (any.whole-blocks lineWay holds tt blocks)
+
+-- where the room holds the answers to the block, the answer to the line that began earlier, and one more
+pub one-call : (room : ℕ) (kept block : List ℕ) → 4 * length block + 2 * answerMost ≤ room
+    → callOf room kept block ≡ turnOf kept block
+one-call room kept block h = whole-block lineWay room 4 holds (λ s line. output-spread line) tt kept block h

@@ -6,7 +6,7 @@ use lib.Dec.{eqb}
 use lib.ListN.{take, replicate}
 use Rattle.line_kinds.specs.Kinds.{lineMost, replyMost}
 use Rattle.lines.specs.Answer.{Outcome, outcomeOf}
-use Rattle.line_cut.specs.Stream.{Answering, Progress, wholeOf, lastOf, streamOf}
+use Rattle.line_cut.specs.Stream.{Answering, Progress, wholeOf, lastOf, blockOf, blocksOf, streamOf}
 
 -- the most places of what is written for a line: a reply and a line feed
 abbrev pub answerMost : ℕ
@@ -36,6 +36,14 @@ lineWay =
 -- the whole output for a whole input
 unfoldable pub outputOf : List ℕ → List ℕ
 outputOf input = wholeOf lineWay tt input .text
+
+-- one turn: with what is kept of a line that has begun, a block as a whole
+abbrev pub turnOf : List ℕ → List ℕ → Progress (Unit {0})
+turnOf kept block = blockOf lineWay tt kept block
+
+-- turns one after the other, from the start of the input
+abbrev pub turnsOf : List (List ℕ) → Progress (Unit {0})
+turnsOf blocks = blocksOf lineWay tt [] blocks
 
 -- one call: with some room, what is kept of a line that has begun, and a block
 abbrev pub callOf : ℕ → List ℕ → List ℕ → Progress (Unit {0})

@@ -1,0 +1,41 @@
+-- `turn` is `turnOf`: `out` has room for all answers, so that one call of `stream` takes what was read as a whole.
+-- Assumes nothing.
+use mathlib.Core.Path.{_≡_, ap, _∙_}
+use mathlib.Core.List.{List}
+use Prim.Native.Nat.{ℕ, _+_, _*_, _≤_}
+use native.Mathlib.Omega.{arith}
+use lib.Dec.{lit≤}
+use lib.ListN.{length, take, length-take}
+use lib.IntN.{ℤ}
+use mir.Syntax.{w64}
+use mir.ValLaws.{toZ-ofZ}
+use borrow.Author.Needs.{needs}
+use Rattle.io.specs.Counts.{clamped}
+use Rattle.line_cut.specs.Stream.{Streams}
+use Rattle.line_stream.specs.Output.{answerMost, callOf, turnOf}
+use Rattle.line_stream.proofs.Whole.{one-call}
+use Rattle.line_program.proofs.turn.Statement.{statement}
+use Rattle.line_program.proofs.turn.Tie as tie
+
+turns : (block kept out : List ℕ) (count n m : ℕ) {used count' filled : ℕ} {kept' lent out' : List ℕ}
+    → n ≡ m → 4 * length block + 2 * answerMost ≤ length out
+    → Streams (callOf (length out) (take count kept) (take n block)) used count' filled kept' lent out'
+    → Streams (turnOf (take count kept) (take m block)) used count' filled kept' lent out'
+turns block kept out count n m e room s =
+    let h : 4 * length (take n block) + 2 * answerMost ≤ length out = rw (length-take n block) (omega arith) in
+    rw (← e, ← one-call (length out) (take count kept) (take n block) h) s
+
+returns : tie.Need-returns
+returns c =
+    let n = c .before .before .before .before in
+    let s = n .before .before in
+    let q = s .args in
+    let b : length (q .block .now) ≡ 65536 = search needs in
+    let o : length (q .out .now) ≡ 263602 = search needs in
+    turns (q .block .now) (q .kept .now) (q .out .now) (q .count) (n .count .result) _
+    (n .count .ensures .1
+    ∙ ap (λ (z : ℤ). clamped z (length (q .block .now))) (toZ-ofZ w64 (q .got) (s .fits .got)))
+    (rw (b, o) (lit≤ tt)) (c .stream .ensures)
+
+pub turn-spec : {M : Type 1} → statement M
+turn-spec = tie.close (tie.spec (λ c κs. search needs) (λ c. search needs) (λ c κs. search needs) returns)
