@@ -84,8 +84,10 @@ module _ {S : Type 0} (way : Answering S) where
     unfolding streamFrom
     taken p c input h = rw (le-leb (length (p .written) + way .textMost) room h)
 
-    all-taken : (p : Progress S) (input : List ℕ) → Enough p input
-        → streamFrom way room p input ≡ blockFrom way p input
+    abbrev All : Progress S → List ℕ → Type 0
+    All p input = streamFrom way room p input ≡ blockFrom way p input
+
+    all-taken : (p : Progress S) (input : List ℕ) → Enough p input → All p input
     unfolding streamFrom blockFrom
     all-taken p [] h = refl
     all-taken p (c ∷ input) h =
@@ -97,7 +99,7 @@ module _ {S : Type 0} (way : Answering S) where
 
     -- the line that began earlier, however much of it is kept, gets one text
     begun-taken : (used : ℕ) (kept : List ℕ) (s : S) (input : List ℕ) → k * length input + 2 * way .textMost ≤ room
-        → streamFrom way room (progress used kept s []) input ≡ blockFrom way (progress used kept s []) input
+        → All (progress used kept s []) input
     unfolding streamFrom blockFrom
     begun-taken used kept s [] h = refl
     begun-taken used kept s (c ∷ input) h =
@@ -115,9 +117,7 @@ module _ {S : Type 0} (way : Answering S) where
         one : (x n t : ℕ) → x ≤ t → k * suc n + 2 * t ≤ room → x + k * (0 + n) + t ≤ room
         one x n t m h = omega arith
 
-        by : (b : Bool)
-            → streamFrom way room (next false used kept s [] c) input ≡ blockFrom way (next false used kept s [] c) input
-            → streamFrom way room (next b used kept s [] c) input ≡ blockFrom way (next b used kept s [] c) input
+        by : (b : Bool) → All (next false used kept s [] c) input → All (next b used kept s [] c) input
         by true longer =
             all-taken (next true used kept s [] c) input
             (one (length (way .answer s kept .text)) (length input) (way .textMost) (holds .text-most s kept) h)

@@ -5,7 +5,7 @@ use mathlib.Core.List.{List, [], _∷_}
 use Prim.Native.Nat.{ℕ, _*_, _≤_}
 use lib.Dec.{eqb, lit≤}
 use Rattle.line_kinds.specs.declared.Row.{Row}
-use Rattle.line_kinds.specs.Kinds.{Kind, kinds, rowIn, rowOf, frameMost, replyMost, placesOf}
+use Rattle.line_kinds.specs.Kinds.{Kind, kinds, rowIn, rowOf, frameMost, replyMost, spread, placesOf}
 
 -- ---- what holds of every row of a table, and of the row that stands for no kind
 abbrev pub Each : (Row → Type 0) → List Kind → Type 0
@@ -25,14 +25,13 @@ module _ (P : Row → Type 0) (none : (n : ℕ) → P (rowIn [] n)) where
   unfolding rowOf
   every-row h n = each-in kinds h n
 
--- The places are those of what is asked, and no row is above the sizes; a reply has at most four characters for each of
--- its line's, which are two a byte.
+-- the places are those of what is asked, and no row is above the sizes, where a line has two characters a byte
 abbrev pub Sound : Row → Type 0
 Sound r =
     (r .places ≡ placesOf (r .asks))
     × (r .bytes ≤ frameMost)
     × (r .places ≤ replyMost)
-    × (r .places ≤ 4 * (2 * r .bytes))
+    × (r .places ≤ spread * (2 * r .bytes))
 
 pub sound : (n : ℕ) → Sound (rowOf n)
 sound =
@@ -46,7 +45,10 @@ sound =
             (refl, lit≤ tt, lit≤ tt, lit≤ tt),
             (
               (refl, lit≤ tt, lit≤ tt, lit≤ tt),
-              ((refl, lit≤ tt, lit≤ tt, lit≤ tt), ((refl, lit≤ tt, lit≤ tt, lit≤ tt), ((refl, lit≤ tt, lit≤ tt, lit≤ tt), tt))),
+              (
+                (refl, lit≤ tt, lit≤ tt, lit≤ tt),
+                ((refl, lit≤ tt, lit≤ tt, lit≤ tt), ((refl, lit≤ tt, lit≤ tt, lit≤ tt), tt)),
+              ),
             ),
           ),
         ),

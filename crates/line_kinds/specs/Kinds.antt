@@ -28,6 +28,10 @@ quarticsPlaces = 2 * 114
 abbrev pub replyMost : ℕ
 replyMost = recordPlaces
 
+-- the most characters of an answer for each character of its line, the line feeds counted
+abbrev pub spread : ℕ
+spread = 4
+
 abbrev pub placesOf : Asks → ℕ
 placesOf NoKind = 0
 placesOf OfCheck = recordPlaces

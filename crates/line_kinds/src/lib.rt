@@ -15,6 +15,9 @@ pub const RECORD: usize = 728;
 
 pub const QUARTICS: usize = 228;
 
+// The most characters of an answer for each character of its line, the line feeds counted.
+pub const SPREAD: usize = 4;
+
 // What a line asks.
 pub enum Asks {
     NoKind,

@@ -2,6 +2,7 @@
 // line feed.
 use libc::STDIN_FILENO;
 use libc::STDOUT_FILENO;
+use line_kinds::SPREAD;
 use line_stream::KEPT;
 use line_stream::ROOM;
 use line_stream::Streamed;
@@ -10,11 +11,11 @@ ghost use Rattle.io.specs.Counts.{clamped};
 ghost use Rattle.line_cut.specs.Stream.{Streams};
 ghost use Rattle.line_stream.specs.Output.{turnOf};
 
-// The characters that are read at once, and room for their answers: an answer has at most four characters for each of
-// its line's with the line feed; the first may be to a line that began earlier, and `stream` wants room for one more.
+// The characters that are read at once, and room for the answers to them, for the answer to a line that began earlier,
+// and for one more, without which `stream` stops.
 const BLOCK: usize = 65536;
 
-const OUT: usize = 4 * BLOCK + 2 * ROOM;
+const OUT: usize = SPREAD * BLOCK + 2 * ROOM;
 
 // Answers the lines that end in what a read gave: `got` is what it said, of the block that it was lent.
 fn turn(
@@ -26,7 +27,8 @@ fn turn(
 ) -> Streamed
     ensures { λ r. ⌜
         Streams
-        (turnOf (take count (now (kept .entry))) (take (clamped got (length (now (block .entry)))) (now (block .entry))))
+        (turnOf (take count (now (kept .entry)))
+        (take (clamped got (length (now (block .entry)))) (now (block .entry))))
         (r .used) (r .count) (r .filled) (now (kept .exit)) (now (out .entry)) (now (out .exit))
         ⌝ }
 {
@@ -37,18 +39,17 @@ fn turn(
 
 // Reads to the end of the input, or to the first read or write that fails. A line that has begun is answered where the
 // input ends. After a read that failed it is not: more of it may stand in the input. A proved loop has to end, and
-// nothing says that the input does: so the turns are counted down, from a number that no run uses up.
+// nothing says that the input does: so the turns are counted, up to a number that no run comes to.
 fn main() {
     let mut block = [0u8; BLOCK];
     let mut kept = [0u8; KEPT];
     let mut out = [0u8; OUT];
-    let mut last = [0u8; ROOM];
     let mut count = 0;
-    let mut turns = u64::MAX;
-    while turns > 0 {
+    for _ in 0..u64::MAX {
         let got = libc::read(STDIN_FILENO, &mut block);
         if got <= 0 {
             if got == 0 {
+                let mut last = [0u8; ROOM];
                 let n = line_stream::finish(&kept, count, &mut last);
                 io::write_all(STDOUT_FILENO, &last[..n]);
             }
@@ -60,6 +61,5 @@ fn main() {
             return;
         }
         count = t.count;
-        turns -= 1;
     }
 }

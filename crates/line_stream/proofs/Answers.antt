@@ -1,5 +1,5 @@
--- A line's text: its length is at most `answerMost`, and at most four times the line's with its line feed; and it does
--- not depend on what the lent places hold, where `replyMost` are lent. Assumes nothing.
+-- A line's text: its length is at most `answerMost`, and at most `spread` times the line's with its line feed; and it
+-- does not depend on what the lent places hold, where `replyMost` are lent. Assumes nothing.
 use mathlib.Core.Path.{_≡_, refl, ap, sym, _∙_}
 use mathlib.Core.Bool.{Bool, true, false, cond}
 use mathlib.Core.List.{List, [], _∷_, _++_}
@@ -11,7 +11,7 @@ use lib.Seq.{take-at}
 use borrow.Author.Tests.{ne-eqb, eqb-true, le-leb}
 use Rattle.hex.specs.Hex.{bytesOf}
 use Rattle.hex.proofs.Turns.{length-bytes}
-use Rattle.line_kinds.specs.Kinds.{replyMost, rowOf}
+use Rattle.line_kinds.specs.Kinds.{replyMost, spread, rowOf}
 use Rattle.line_kinds.proofs.Rows.{sound}
 use Rattle.line_questions.specs.Questions.{placesFit}
 use Rattle.line_answers.specs.FrameAnswer.{repliedOf}
@@ -39,16 +39,16 @@ pub filled-most : (line lent : List ℕ) → outcomeOf line lent .filled ≤ rep
 filled-most line lent = filled-within line lent replyMost (λ e. sound (kindOf line) .2)
 
 -- an accepted line has two characters for each byte of its kind
-filled-spread : (line lent : List ℕ) → outcomeOf line lent .filled ≤ 4 * length line
+filled-spread : (line lent : List ℕ) → outcomeOf line lent .filled ≤ spread * length line
 filled-spread line lent =
-    filled-within line lent (4 * length line)
+    filled-within line lent (spread * length line)
     (λ e.
     by (rowOf (kindOf line) .places) (rowOf (kindOf line) .bytes) (length (bytesOf line)) (length line)
     (sound (kindOf line) .3)
     (eqb-true (length (bytesOf line)) (rowOf (kindOf line) .bytes) (every-yes line lent e .1 .1 .1 .0))
     (length-bytes line))
   where
-    by : (places bytes n line : ℕ) → places ≤ 4 * (2 * bytes) → n ≡ bytes → n ≡ line / 2 → places ≤ 4 * line
+    by : (places bytes n line : ℕ) → places ≤ spread * (2 * bytes) → n ≡ bytes → n ≡ line / 2 → places ≤ spread * line
     by places bytes n line h e l = omega arith
 
 output-within : (line : List ℕ) (n : ℕ) → 2 ≤ n → outcomeOf line zeros .filled ≤ n
@@ -69,16 +69,16 @@ output-within line n two h =
 pub output-most : (line : List ℕ) → length (lineOutput line) ≤ answerMost
 output-most line = output-within line replyMost (lit≤ tt) (filled-most line zeros)
 
-pub output-spread : (line : List ℕ) → length (lineOutput line) ≤ 4 * suc (length line)
+pub output-spread : (line : List ℕ) → length (lineOutput line) ≤ spread * suc (length line)
 output-spread line =
     up (length (lineOutput line)) (length line)
-    (output-within line (4 * length line + 3) (omega arith)
+    (output-within line (spread * length line + 3) (omega arith)
     (three (outcomeOf line zeros .filled) (length line) (filled-spread line zeros)))
   where
-    three : (n line : ℕ) → n ≤ 4 * line → n ≤ 4 * line + 3
+    three : (n line : ℕ) → n ≤ spread * line → n ≤ spread * line + 3
     three n line h = omega arith
 
-    up : (n line : ℕ) → n ≤ 4 * line + 3 + 1 → n ≤ 4 * suc line
+    up : (n line : ℕ) → n ≤ spread * line + 3 + 1 → n ≤ spread * suc line
     up n line h = omega arith
 
 -- ---- the number, whatever is lent

@@ -1,6 +1,6 @@
--- Over any blocks, and over any calls of `stream`, each going on where the one before stopped, the outputs one after the
--- other are those of the whole input: the law of line_cut's Whole.antt, since what is kept of a line gets the line's own
--- answer. Assumes nothing.
+-- Over any blocks, and over any calls of `stream`, each going on where the one before stopped, the outputs one after
+-- the other are those of the whole input: the law of line_cut's Whole.antt, since what is kept of a line gets the
+-- line's own answer. Assumes nothing.
 use mathlib.Core.Path.{_≡_, refl, ap, sym, _∙_}
 use mathlib.Core.Bool.{Bool, true, false}
 use mathlib.Core.List.{List, [], _∷_, _++_, flatten}
@@ -10,9 +10,9 @@ use lib.Dec.{leb}
 use lib.ListN.{length, take, replicate}
 use lib.Seq.{take-all, length-take-le}
 use borrow.Author.Tests.{leb-true, leb-false}
-use Rattle.line_kinds.specs.Kinds.{lineMost, replyMost}
+use Rattle.line_kinds.specs.Kinds.{lineMost, replyMost, spread}
 use Rattle.lines.specs.Answer.{answerOf, Outcome, outcomeOf}
-use Rattle.line_cut.specs.Stream.{LineAnswer, keptMost, Calls, Holds}
+use Rattle.line_cut.specs.Stream.{LineAnswer, keptMost, Calls, Holds, Spreads}
 use Rattle.line_cut.proofs.Taken.{whole-block}
 use Rattle.line_cut.proofs.Whole as any
 use Rattle.line_stream.specs.Output.{answerMost, textOf, lineOutput, lineWay, outputOf, turnOf, turnsOf, callOf}
@@ -56,6 +56,9 @@ holds =
       kept-same = λ s line. ap (λ (l : List ℕ). record { state = s; text = l }) (cut-output line);
     }
 
+spreads : Spreads lineWay spread
+spreads s line = output-spread line
+
 pub whole : {input output kept : List ℕ} → Calls lineWay tt [] input output tt kept
     → output ++ lastOutput kept ≡ outputOf input
 unfolding outputOf
@@ -67,6 +70,6 @@ unfolding outputOf
 whole-blocks blocks = ap (λ (a : LineAnswer (Unit {0})). a .text) (any.whole-blocks lineWay holds tt blocks)
 
 -- where the room holds the answers to the block, the answer to the line that began earlier, and one more
-pub one-call : (room : ℕ) (kept block : List ℕ) → 4 * length block + 2 * answerMost ≤ room
+pub one-call : (room : ℕ) (kept block : List ℕ) → spread * length block + 2 * answerMost ≤ room
     → callOf room kept block ≡ turnOf kept block
-one-call room kept block h = whole-block lineWay room 4 holds (λ s line. output-spread line) tt kept block h
+one-call room kept block h = whole-block lineWay room spread holds spreads tt kept block h

@@ -1,5 +1,6 @@
 -- `main` is safe and ends: the measure is the number of turns that are left. Assumes nothing.
 use mathlib.Core.Path.{_≡_, sym}
+use Prim.Native.Nat.{_-_, _^_}
 use native.Mathlib.Omega.{arith}
 use lib.ListN.{length}
 use lib.Seq.{length-take-le}
@@ -9,10 +10,10 @@ use Rattle.line_program.proofs.main.Statement.{statement}
 use Rattle.line_program.proofs.main.Tie as tie
 
 abbrev Inv-loop : tie.InvT-loop
-Inv-loop block₀ kept₀ out₀ last₀ count₀ turns₀ block kept out last count turns = length block ≡ 65536
+Inv-loop block₀ kept₀ out₀ count₀ turn₀ block kept out count turn = length block ≡ 65536
 
 abbrev μ-loop : tie.MeasureT-loop
-μ-loop block₀ kept₀ out₀ last₀ count₀ turns₀ block kept out last count turns = turns
+μ-loop block₀ kept₀ out₀ count₀ turn₀ block kept out count turn = 2 ^ 64 - turn
 
 array-share-prefix-last : tie.Need-array-share-prefix-last Inv-loop μ-loop
 array-share-prefix-last c = last-within (c .finish .ensures)

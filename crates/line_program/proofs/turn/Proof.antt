@@ -12,17 +12,18 @@ use mir.ValLaws.{toZ-ofZ}
 use borrow.Author.Needs.{needs}
 use Rattle.io.specs.Counts.{clamped}
 use Rattle.line_cut.specs.Stream.{Streams}
+use Rattle.line_kinds.specs.Kinds.{spread}
 use Rattle.line_stream.specs.Output.{answerMost, callOf, turnOf}
 use Rattle.line_stream.proofs.Whole.{one-call}
 use Rattle.line_program.proofs.turn.Statement.{statement}
 use Rattle.line_program.proofs.turn.Tie as tie
 
 turns : (block kept out : List ℕ) (count n m : ℕ) {used count' filled : ℕ} {kept' lent out' : List ℕ}
-    → n ≡ m → 4 * length block + 2 * answerMost ≤ length out
+    → n ≡ m → spread * length block + 2 * answerMost ≤ length out
     → Streams (callOf (length out) (take count kept) (take n block)) used count' filled kept' lent out'
     → Streams (turnOf (take count kept) (take m block)) used count' filled kept' lent out'
 turns block kept out count n m e room s =
-    let h : 4 * length (take n block) + 2 * answerMost ≤ length out = rw (length-take n block) (omega arith) in
+    let h : spread * length (take n block) + 2 * answerMost ≤ length out = rw (length-take n block) (omega arith) in
     rw (← e, ← one-call (length out) (take count kept) (take n block) h) s
 
 returns : tie.Need-returns
