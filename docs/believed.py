@@ -24,12 +24,14 @@ LISTS = [
     ("demand 1", [("lines", "src", "answer_line"), ("lines", "src", "answered"),
                   ("line_places/Places", "proofs", "after-a-number"),
                   ("line_places/Places", "proofs", "after-a-reply")], [], ["replyOf"]),
-    ("line program", [("line_stream/Whole", "proofs", "whole"), ("line_stream", "src", "stream"),
-                      ("line_stream", "src", "finish")], ["demand 1"], ["replyOf"]),
+    ("line program", [("line_program", "src", "turn"), ("line_stream", "src", "finish"),
+                      ("line_stream/Whole", "proofs", "whole-blocks"), ("line_stream/Whole", "proofs", "whole")],
+     ["demand 1"], ["replyOf"]),
     ("demand 2", [("lines", "src", "answer_line"), ("lines", "src", "answered")], ["demand 1"], []),
     ("demand 3", [("line_arrives/Theorem", "proofs", "yes-arrives"),
                   ("line_arrives/Theorem", "proofs", "yes-arrives-closely")], ["demand 1", "demand 2"], []),
-    ("other theorems", [("sqrt/Nearest", "proofs", "sqrt-nearest"), ("marked_moves/Table", "proofs", "marked-moves")],
+    ("other theorems", [("sqrt/Nearest", "proofs", "sqrt-nearest"), ("marked_moves/Table", "proofs", "marked-moves"),
+                        ("worked_lines/Worked", "proofs", "worked-arrive")],
      ["demand 1", "demand 2", "demand 3"], []),
 ]
 
@@ -138,6 +140,7 @@ def words(text):
 def operators(here, text):
     """An operator such as _⊕_ is written without its places."""
     found = set()
+    text = re.sub(r"--.*", "", text)
     for name in list(here.brings) + list(here.defines):
         if "_" in name and "«" not in name:
             parts = [p for p in name.split("_") if p]

@@ -3,10 +3,10 @@
 
     docs/promises.py
 
-Every public function has a row; a row names at least two must-fail edits that are there; every edit is named; no
-public function has a `requires`; an edit with † changes no file of src/ outside a promise, one without † does. Status
-1 where something is missing. A function is public where it is `pub` in src/lib.rt or in a `pub mod` of it, or a `pub`
-method of a type that is.
+Every public function has a row; a row names at least two must-fail edits, and none that is not there; every edit is
+named; no public function has a `requires`; an edit with † changes no file of src/ outside a promise, one without †
+does. Status 1 where something is missing. A function is public where it is `pub` in src/lib.rt or in a `pub mod` of
+it, or a `pub` method of a type that is.
 """
 import glob
 import os
@@ -65,19 +65,25 @@ def rows():
             if m and m.group(1) in CRATES:
                 here, plain = m.group(1), m.group(2)
             found = out.setdefault(here, {}).setdefault(plain, [])
+            for one in re.findall(r": `([a-z0-9_/]+)`", cells[2]):
+                full = one if "/" in one else here + "/" + one
+                if full not in EDITS:
+                    WRONG.append("there is no edit %s" % full)
             for one, mark in re.findall(r"`([a-z0-9_/]+)`(†?)", cells[2]):
                 full = one if "/" in one else here + "/" + one
-                if os.path.exists("crates/%s/must-fail/%s.edit" % tuple(full.split("/"))):
+                if full in EDITS:
                     found.append((full, mark))
     return out
 
 
 CRATES = [l.split(":")[0].strip() for l in read("crates.txt").split("\n") if l.strip() and l[0] != "#"]
 EDITS = {"%s/%s" % (p.split("/")[1], os.path.basename(p)[:-5]): read(p) for p in glob.glob("crates/*/must-fail/*.edit")}
+WRONG = []
 
 
 def main():
-    wrong, listed = [], rows()
+    listed = rows()
+    wrong = sorted(set(WRONG))
     count = programs = theorems = with_functions = 0
     for crate in CRATES:
         programs += os.path.exists("crates/%s/src/main.rt" % crate)
