@@ -32,6 +32,7 @@ fn turn(
         (r .used) (r .count) (r .filled) (now (kept .exit)) (now (out .entry)) (now (out .exit))
         ⌝ }
 {
+    // the first places are to be had of a slice, not of a lent array
     let block: &[u8] = block;
     let n = io::count(got, block);
     line_stream::stream(&block[..n], kept, count, out)
