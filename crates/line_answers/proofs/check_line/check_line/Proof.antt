@@ -7,7 +7,6 @@ use native.Mathlib.Omega.{arith}
 use lib.ListN.{length}
 use borrow.Author.Needs.{needs}
 use borrow.Author.Tests.{not-true, not-false, le-leb, lt-leb}
-use Rattle.hex.specs.Hex.{hexOf, fill}
 use Rattle.line_kinds.specs.declared.Asks.the-variants.{OfCheck}
 use Rattle.line_kinds.specs.Kinds.{recordPlaces}
 use Rattle.line_frame.specs.declared.CheckNumbers.{CheckNumbers}
@@ -15,7 +14,7 @@ use Rattle.line_frame.specs.Frame.{Frame, byteAt}
 use Rattle.line_frame.specs.Numbers.{checkNumbersOf, checkFinite}
 use Rattle.line_frame.proofs.Finite.{check-read, check-unread}
 use Rattle.line_questions.specs.Questions.{ask, choicesFit, questionsOf}
-use Rattle.line_reply.specs.Reply.{replyBytesOf}
+use Rattle.line_reply.specs.Reply.{replyBytesOf, writtenOf}
 use Rattle.line_answers.specs.CheckLine.{checkedOf}
 use Rattle.line_answers.specs.FrameAnswer.{replyOf, frameAnswerOf}
 use Rattle.line_answers.proofs.Replies.{refused, replied, filled}
@@ -70,8 +69,10 @@ returns-4 c =
     let k = c .before .before in let i3 = k .before .before .before in let i2 = i3 .before in let i = first i2 in
     replied (replyOf OfCheck (at i)) (lent i) _
     (fits i, (read i2 .0, (le-leb recordPlaces (length (lent i)) (i3 .if3 .left), tt))) _
-    (filled recordPlaces _ (lent i) _ (k .check-reply .result) (i3 .if3 .left) (k .check-reply .ensures)
-    ∙ ap (λ (x : CheckNumbers). fill (hexOf (replyBytesOf (checkedOf x (at i)))) (lent i)) (read i2 .1))
+    (filled recordPlaces (replyBytesOf (checkedOf (checkNumbersOf (at i)) (at i))) (lent i) _ (k .check-reply .result)
+    (i3 .if3 .left)
+    (k .check-reply .ensures
+    ∙ ap (λ (x : CheckNumbers). writtenOf recordPlaces (replyBytesOf (checkedOf x (at i))) (lent i)) (read i2 .1)))
 
 pub check-line-spec : {M : Type 1} → statement M
 check-line-spec =

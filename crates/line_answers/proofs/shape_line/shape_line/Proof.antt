@@ -5,7 +5,6 @@ use mathlib.Core.List.{List}
 use Prim.Native.Nat.{ℕ}
 use borrow.Author.Needs.{needs}
 use borrow.Author.Tests.{not-true, not-false}
-use Rattle.hex.specs.Hex.{hexOf, fill}
 use Rattle.profile.specs.declared.Checked.{Checked}
 use Rattle.step2_solver.specs.declared.Shape.{Shape}
 use Rattle.step2_quartics.specs.declared.Quartics.{Quartics}
@@ -14,7 +13,8 @@ use Rattle.line_frame.specs.Frame.{Frame, byteAt}
 use Rattle.line_frame.specs.Numbers.{moveFinite, moveOf}
 use Rattle.line_frame.proofs.Finite.{move-read, move-unread}
 use Rattle.line_questions.specs.Questions.{countsFit, quarticsAt}
-use Rattle.line_reply.specs.Reply.{replyBytesOf}
+use Rattle.line_reply.specs.Reply.{replyBytesOf, writtenOf}
+use Rattle.line_answers.specs.ShapeLine.{shapeLineOf}
 use Rattle.line_answers.specs.QuarticLine.{bothBytes}
 use Rattle.line_answers.proofs.Replies.{filled}
 use Rattle.line_answers.proofs.Moves.{fifth, sixth, quartics-eighth, quartics-all, seventh, eighth, all}
@@ -76,9 +76,11 @@ returns-4 c =
     let w = c .before .before in let i4 = w .before .before in let i3 = i4 .before in let k = i3 .before in
     let l = k .before in let s = l .before in let i2 = s .before .before in let i = first i2 in let r = read i2 in
     quartics-all (shape i) (at i) (lent i) (r .0) _ (i3 .if3 .taken) (i4 .if4 .left) _
-    (filled quarticsPlaces _ (lent i) _ (w .quartics-reply .result) (i4 .if4 .left) (w .quartics-reply .ensures)
-    ∙ ap (λ (q : Quartics). fill (hexOf (bothBytes q)) (lent i))
-    (quartics-are (shape i) (at i) (r .1) (s .solver .ensures) (l .limits .ensures) (k .quartics-of .ensures)))
+    (filled quarticsPlaces (bothBytes (quarticsAt (shape i) (at i))) (lent i) _ (w .quartics-reply .result)
+    (i4 .if4 .left)
+    (w .quartics-reply .ensures
+    ∙ ap (λ (q : Quartics). writtenOf quarticsPlaces (bothBytes q) (lent i))
+    (quartics-are (shape i) (at i) (r .1) (s .solver .ensures) (l .limits .ensures) (k .quartics-of .ensures))))
 
 returns-5 : tie.Need-returns-5
 returns-5 c =
@@ -101,10 +103,12 @@ returns-7 c =
     all (shape i) (at i) (lent i) (read i2 .0) _ (i3 .if3 .left) (fits i)
     (rw (← worked i3) (sym (u .counts-suit .ensures) ∙ not-false (u .counts-suit .result) (i5 .if5 .left)))
     (i6 .if6 .left) _
-    (filled recordPlaces _ (lent i) _ (w .shape-reply .result) (i6 .if6 .left) (w .shape-reply .ensures)
-    ∙ ap (λ (y : Checked). fill (hexOf (replyBytesOf y)) (lent i))
+    (filled recordPlaces (replyBytesOf (shapeLineOf (shape i) (at i))) (lent i) _ (w .shape-reply .result)
+    (i6 .if6 .left)
+    (w .shape-reply .ensures
+    ∙ ap (λ (y : Checked). writtenOf recordPlaces (replyBytesOf y) (lent i))
     (shape-is (shape i) (at i) (read i2 .1) (l .before .solver .ensures) (l .limits .ensures)
-    (k .quartics-of .ensures) (a .first-answer .ensures) (b .second-answer .ensures)))
+    (k .quartics-of .ensures) (a .first-answer .ensures) (b .second-answer .ensures))))
 
 pub shape-line-spec : {M : Type 1} → statement M
 shape-line-spec =
