@@ -13,9 +13,10 @@ is accepted is checked again from an empty folder. A public constant has no cont
 used: if its crate accepts it, the crates above are checked too, until one refuses ('refused above'). The same draw is
 made again by the same SEED and COUNT, on the same code.
 
-A refusal is at a fact that no longer holds, or at the proof's shape: a path, a name or a number of parts that the proof
-file counts on. The first error tells, by its words (SHAPE below). 'same machine code' marks a change that leaves the
-static libraries of the crates with exported functions as they were, though another change of that function does not.
+A refusal is at a fact that no longer holds, or at the proof's shape: a path, a name, a number of parts or something to
+rewrite that the proof file counts on. The first error tells, by its words (SHAPE below). 'same machine code' marks a
+change that leaves the static libraries of the crates with exported functions as they were, though another change of
+that function does not.
 
 It needs a repository that is checked (`rt check`), and writes target/mutate/SEED-COUNT.txt: tables by crate and by
 kind, a line for each change, and under it the prover's first error. All that the prover said is in a folder beside it.
@@ -45,8 +46,10 @@ OWN = KIT / "on" / os.uname().machine
 
 # Words of the prover by which a proof does not fit the code's shape, whatever the facts.
 SHAPE = re.compile(
-    r"has no (?:field|`)|not in scope|unknown name|no definition|constructor pattern|takes? \d+ argument|too many"
-    r"|too few|is not a function|is not a record|is not used|there is no|not a part|names no|expected `[\w-]+` in"
+    r"has no (?:field|`)|no occurrence of the path|this pattern needs|expected type `tie\.|not in scope|unknown name"
+    r"|constructor pattern|takes? \d+ argument|too many|too few|is not a function|is not a record|expected `[\w-]+` in"
+    # a test that is a constant now has a fact of another type
+    r"|has `Prim\.Native\.Nat\.\S+ \(expected\)[^(]* the other has `mathlib\.Core\.(?:Bool\.Bool|Path\._≡_)`"
 )
 
 
@@ -163,7 +166,7 @@ class Copy:
             if e not in self.archives:
                 self.archives[e] = self.archive(e)
         self.make(change)
-        found = any(self.archive(e) != self.archives[e] for e in some)
+        found = any(self.archive(e) not in (self.archives[e], "none") for e in some)
         self.undo(change)
         return found
 
