@@ -23,7 +23,9 @@ CRATES = os.path.join(ROOT, "crates")
 LISTS = [
     ("demand 1", [("lines", "src", "answer_line"), ("lines", "src", "answered"),
                   ("line_places/Places", "proofs", "after-a-number"),
-                  ("line_places/Places", "proofs", "after-a-reply")], [], ["replyOf"]),
+                  ("line_places/Places", "proofs", "after-a-reply"),
+                  ("line_places/Places", "proofs", "at-most-eight"),
+                  ("line_places/Places", "proofs", "every-yes")], [], ["replyOf"]),
     ("line program", [("line_program", "src", "turn"), ("line_stream", "src", "finish"),
                       ("line_stream/Whole", "proofs", "whole-blocks"), ("line_stream/Whole", "proofs", "whole")],
      ["demand 1"], ["replyOf"]),

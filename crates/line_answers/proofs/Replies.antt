@@ -7,8 +7,8 @@ use Prim.Native.Nat.{ℕ, _≤_}
 use lib.ListN.{length}
 use borrow.Author.Tests.{ne-eqb, le-leb}
 use Rattle.hex.specs.Hex.{hexOf, fill}
-use Rattle.line_questions.specs.Questions.{Question, ask}
-use Rattle.line_questions.proofs.Asked.{AllYes, stops, none}
+use Rattle.line_questions.specs.Questions.{Question, ask, AllYes}
+use Rattle.line_questions.proofs.Asked.{stops, none}
 use Rattle.line_reply.specs.Reply.{writtenOf}
 use Rattle.line_answers.specs.FrameAnswer.{repliedOf}
 

@@ -21,8 +21,7 @@ use Rattle.line_kinds.specs.declared.Asks.the-variants.{OfShape}
 use Rattle.line_frame.specs.Frame.{Frame, byteAt, wordAt, numberAt}
 use Rattle.line_frame.specs.Numbers.{moveOf, moveFinite, rootAnswerOf, firstAnswerOf, secondAnswerOf}
 use Rattle.line_frame.proofs.Numbers.{each-finite}
-use Rattle.line_questions.specs.Questions.{ask, placesFit, questionsOf}
-use Rattle.line_questions.proofs.Asked.{AllYes}
+use Rattle.line_questions.specs.Questions.{ask, placesFit, questionsOf, AllYes}
 use Rattle.line_reply.specs.Reply.{replyBytesOf}
 use Rattle.line_answers.specs.ShapeLine.{shapeLineOf}
 use Rattle.line_answers.specs.FrameAnswer.{replyOf, repliedOf}

@@ -14,9 +14,9 @@ use Rattle.line_kinds.specs.declared.Asks.{Asks}
 use Rattle.line_kinds.specs.declared.Asks.the-variants.{NoKind, OfCheck, OfShape, OfQuartics}
 use Rattle.line_kinds.proofs.Rows.{sound}
 use Rattle.line_frame.specs.Frame.{Frame, byteAt}
-use Rattle.line_questions.specs.Questions.{Question, ask, placesFit, firstNo, questionsOf}
+use Rattle.line_questions.specs.Questions.{Question, ask, placesFit, firstNo, questionsOf, AllYes}
 use Rattle.line_questions.specs.Questions.{lineQuestions, frameQuestions, questions}
-use Rattle.line_questions.proofs.Asked.{AllYes, Numbered, all-yes, all-rest}
+use Rattle.line_questions.proofs.Asked.{Numbered, all-yes, all-rest}
 use Rattle.line_answers.specs.FrameAnswer.{replyOf, repliedOf}
 use Rattle.lines.specs.Answer.{answerOf}
 use Rattle.line_places.specs.Exactly.{rowFor, replyTo, Untouched, FilledExactly}

@@ -4,13 +4,9 @@ use mathlib.Core.Path.{_≡_, refl}
 use mathlib.Core.Bool.{Bool, true, false, cond}
 use mathlib.Core.List.{List, [], _∷_, _++_}
 use Prim.Native.Nat.{ℕ}
-use Rattle.line_questions.specs.Questions.{Question, ask, firstNo}
+use Rattle.line_questions.specs.Questions.{Question, ask, firstNo, AllYes}
 
--- every question of a list was answered yes; and has a number, which is not 0
-abbrev pub AllYes : List Question → Type 0
-AllYes [] = Unit {0}
-AllYes (q ∷ qs) = (q .yes ≡ true) × AllYes qs
-
+-- every question of a list has a number, which is not 0
 abbrev pub Numbered : List Question → Type 0
 Numbered [] = Unit {0}
 Numbered (q ∷ qs) = (q .number ≡ 0 → ⊥) × Numbered qs

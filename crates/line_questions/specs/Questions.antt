@@ -1,6 +1,7 @@
 -- The questions to a line, in order, and which of them each kind is asked. Definitions only.
 -- A question that a kind has nothing to ask about is not asked.
 -- One that a later kind brings stands in that kind's list alone.
+use mathlib.Core.Path.{_≡_}
 use mathlib.Core.Bool.{Bool, true, false, cond, not, _&&_}
 use mathlib.Core.List.{List, [], _∷_, _++_}
 use Prim.Native.Nat.{ℕ, _%_}
@@ -67,6 +68,11 @@ ask n b = record { number = n; yes = b }
 abbrev pub firstNo : List Question → ℕ
 firstNo [] = 0
 firstNo (q ∷ qs) = cond (q .yes) (firstNo qs) (q .number)
+
+-- every question of a list was answered yes
+abbrev pub AllYes : List Question → Type 0
+AllYes [] = Unit {0}
+AllYes (q ∷ qs) = (q .yes ≡ true) × AllYes qs
 
 -- ---- who is asked what
 -- what each kind is asked of its frame, between the length and the places

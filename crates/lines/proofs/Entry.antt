@@ -16,7 +16,8 @@ use Rattle.line_kinds.specs.Kinds.{frameMost, lineMost, placesOf, rowOf}
 use Rattle.line_kinds.proofs.Rows.{sound}
 use Rattle.line_frame.specs.Frame.{Frame, byteAt}
 use Rattle.line_questions.specs.Questions.{Question, ask, lengthFits, isKind, bytesFit, questionsOf, lineQuestions}
-use Rattle.line_questions.proofs.Asked.{AllYes, past}
+use Rattle.line_questions.specs.Questions.{AllYes}
+use Rattle.line_questions.proofs.Asked.{past}
 use Rattle.line_answers.specs.FrameAnswer.{Answer, replyOf, repliedOf, frameAnswerOf}
 use Rattle.lines.specs.Answer.{answerOf, Outcome, outcomeOf}
 use Rattle.line_answers.proofs.Replies.{refused}
