@@ -236,7 +236,8 @@ def table(found):
     for path in keys:
         n = sum(x[1] for x in by_file[path])
         total += n
-        rows.append("| %s | %d | %s |" % (path[len("crates/"):], n, ", ".join("`%s`" % x[0] for x in sorted(by_file[path]))))
+        names = ", ".join("`%s`" % name for name, _ in sorted(by_file[path]))
+        rows.append("| %s | %d | %s |" % (path[len("crates/"):], n, names))
     return total, len(found), rows
 
 
