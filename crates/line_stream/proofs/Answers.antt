@@ -1,11 +1,11 @@
 -- A line's text: its length is at most `answerMost`, and at most `spread` times the line's with its line feed; and it
 -- does not depend on what the lent places hold, where `replyMost` are lent. Assumes nothing.
-use mathlib.Core.Path.{_≡_, refl, ap, sym, _∙_}
+use mathlib.Core.Path.{_≡_, refl, ap, _∙_}
 use mathlib.Core.Bool.{Bool, true, false, cond}
 use mathlib.Core.List.{List, [], _∷_, _++_}
-use Prim.Native.Nat.{ℕ, suc, _+_, _*_, _/_, _≤_, min}
+use Prim.Native.Nat.{ℕ, suc, _+_, _*_, _/_, _≤_}
 use native.Mathlib.Omega.{arith}
-use lib.Dec.{eqb, leb, lit≤}
+use lib.Dec.{eqb, lit≤}
 use lib.ListN.{length, take, replicate, length-append, length-take}
 use lib.Seq.{take-at}
 use borrow.Author.Tests.{ne-eqb, eqb-true, le-leb}

@@ -47,13 +47,17 @@ fn end_line(part: &[u8], kept: &mut [u8], count: usize, out: &mut [u8], at: usiz
     write_line(kept, n, out, at)
 }
 
-fn stream_lines(input: &[u8], kept: &mut [u8], count: usize, out: &mut [u8]) -> Streamed
-    requires { ⌜ length (now kept) ≡ keptMost lineWay ⌝ }
+// Answers the lines that end in `input`, as long as `out` has room for another answer, `ROOM` places. The first `count`
+// places of `kept` hold the first characters of a line that began in an earlier call; `used` says where the next call
+// goes on.
+pub fn stream(input: &[u8], kept: &mut [u8; KEPT], count: usize, out: &mut [u8]) -> Streamed
     ensures { λ r. ⌜
         Streams (callOf (length (now (out .entry))) (take count (now (kept .entry))) (now (input .entry)))
         (r .used) (r .count) (r .filled) (now (kept .exit)) (now (out .entry)) (now (out .exit))
         ⌝ }
 {
+    // A slice, of which the proof knows the length.
+    let kept: &mut [u8] = kept;
     let mut count = least(count, KEPT);
     let mut at = 0;
     let mut filled = 0;
@@ -76,18 +80,6 @@ fn stream_lines(input: &[u8], kept: &mut [u8], count: usize, out: &mut [u8]) -> 
         count: count,
         filled: filled,
     }
-}
-
-// Answers the lines that end in `input`, as long as `out` has room for another answer, `ROOM` places. The first `count`
-// places of `kept` hold the first characters of a line that began in an earlier call; `used` says where the next call
-// goes on.
-pub fn stream(input: &[u8], kept: &mut [u8; KEPT], count: usize, out: &mut [u8]) -> Streamed
-    ensures { λ r. ⌜
-        Streams (callOf (length (now (out .entry))) (take count (now (kept .entry))) (now (input .entry)))
-        (r .used) (r .count) (r .filled) (now (kept .exit)) (now (out .entry)) (now (out .exit))
-        ⌝ }
-{
-    stream_lines(input, kept, count, out)
 }
 
 // Answers the line that has begun where the input ends, if it has a character.

@@ -6,7 +6,7 @@ use mathlib.Core.List.{List, [], _∷_, _++_}
 use native.Mathlib.Omega.{arith}
 use lib.Dec.{T}
 use lib.ListN.{length, length-append}
-use lib.Ieee.{Float, binary64, lt, le, neg, fits}
+use lib.Ieee.{Float, binary64, lt, le, neg}
 use lib.Ieee.Fits.{neg-fits, div-fits}
 use lib.Ieee.Bits.{ofBits-fits}
 use Rattle.float.specs.Ops.{_⊕_, _⊖_, _⊗_, _⊘_, #0, #2, #4, #ε, #16ε}

@@ -11,7 +11,6 @@ use lib.Ieee.{Float, nan, inf, fin, binary64, down, size, units, fits}
 use lib.Ieee.Digits.{size-lt, size-le}
 use lib.Ieee.Fits.{down-pos}
 use lib.Ieee.Exact.{HasValue, units-val}
-use lib.Ieee.Scale.{finite}
 use lib.Ieee.Positive.{positive, positive-of-value}
 use Rattle.sqrt.specs.Sqrt.{root, nearestRoot, unitsOf, radicand, sqrtOf}
 use Rattle.sqrt.specs.Nearest.{NearestTo}

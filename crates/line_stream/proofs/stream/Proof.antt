@@ -1,6 +1,6 @@
--- `stream_lines` is `callOf`. The invariant is `Going`; the measure is what is left of the input, and one more.
+-- `stream` is `callOf`. The invariant is `Going`; the measure is what is left of the input, and one more.
 -- Assumes nothing.
-use mathlib.Core.Path.{_≡_, sym, _∙_}
+use mathlib.Core.Path.{_≡_}
 use Prim.Native.Nat.{ℕ, _≤_, _<_, _+_, _-_, _^_}
 use native.Mathlib.Omega.{arith}
 use lib.ListN.{length, take}
@@ -9,53 +9,46 @@ use Rattle.line_cut.specs.Stream.{keptMost}
 use Rattle.line_cut.proofs.Turns.{Going, begins, out-of-room, out-of-input, end-within, turns}
 use Rattle.line_stream.specs.Output.{answerMost, lineWay}
 use Rattle.line_stream.proofs.Whole.{holds}
-use Rattle.line_stream.proofs.stream_lines.Statement.{statement}
-use Rattle.line_stream.proofs.stream_lines.Tie as tie
+use Rattle.line_stream.proofs.stream.Statement.{statement}
+use Rattle.line_stream.proofs.stream.Tie as tie
 
 abbrev Inv-loop : tie.InvT-loop
-Inv-loop input kept₀ count out₀ count₀ at₀ filled₀ kept out count' at filled =
+Inv-loop input count out₀ kept₀ count₀ at₀ filled₀ out kept count' at filled =
     Going lineWay tt input (take count kept₀) out₀ tt kept out count' at filled
 
 abbrev μ-loop : tie.MeasureT-loop
-μ-loop input kept₀ count out₀ count₀ at₀ filled₀ kept out count' at filled = length input + 1 - at
+μ-loop input count out₀ kept₀ count₀ at₀ filled₀ out kept count' at filled = length input + 1 - at
 
 loop-holds : tie.Need-loop-holds Inv-loop μ-loop
 loop-holds c =
     let s = c .before .before .before .before in
     let q = s .args in
-    begins lineWay tt (q .input .now) (q .kept .now) (q .out .now) (q .count) (c .least .result) (s .pre)
+    begins lineWay tt (q .input .now) (q .kept .now) (q .out .now) (q .count) (c .least .result) (search needs)
     (c .least .ensures)
 
 sub-loop : tie.Need-sub-loop Inv-loop μ-loop
 sub-loop c = c .loop .inv .room
 
 sub-keep : tie.Need-sub-keep Inv-loop μ-loop
-sub-keep c = c .before .before .before .before .loop .inv .within
+sub-keep c = c .before .before .before .loop .inv .within
 
 part-keep-start : tie.Need-part-keep-start Inv-loop μ-loop
-part-keep-start c = c .before .before .before .before .loop .inv .within
+part-keep-start c = c .before .before .before .loop .inv .within
 
 same-length : tie.Need-same-length Inv-loop μ-loop
-same-length c =
-    let k = c .before .before in
-    let w : length (k .keep .last .0) ≡ keptMost lineWay = search needs in
-    w ∙ sym (k .before .before .before .before .before .before .before .before .before .before .before .pre)
-
-same-length-2 : tie.Need-same-length-2 Inv-loop μ-loop
-same-length-2 c = c .before .before .before .before .before .before .before .before .loop .inv .same
+same-length c = c .before .before .before .before .before .loop .inv .same
 
 returns : tie.Need-returns Inv-loop μ-loop
 returns c =
-    let k = c .before .before in
-    let i = k .before .before .before in
+    let i = c .before .before in
     let f = i .before in
-    let w : length (k .keep .last .0) ≡ keptMost lineWay = search needs in
+    let w : length (c .keep .last .0) ≡ keptMost lineWay = search needs in
     out-of-input (f .before .before .loop .inv) (f .before .loop-test .taken) (f .find .result) (f .find .ensures)
     (i .if1 .taken)
-    (k .keep .result)
-    (k .keep .last .0)
+    (c .keep .result)
+    (c .keep .last .0)
     w
-    (k .keep .ensures)
+    (c .keep .ensures)
     .0
 
 sub-end-line : tie.Need-sub-end-line Inv-loop μ-loop
@@ -110,20 +103,15 @@ loop-again c =
     w
     (e .end-line .ensures)
 
-same-length-3 : tie.Need-same-length-3 Inv-loop μ-loop
-same-length-3 c =
-    c .before .loop .inv .whole ∙ sym (c .before .before .before .before .before .before .pre)
-
-same-length-4 : tie.Need-same-length-4 Inv-loop μ-loop
-same-length-4 c = c .before .loop .inv .same
+same-length-2 : tie.Need-same-length-2 Inv-loop μ-loop
+same-length-2 c = c .before .loop .inv .same
 
 returns-2 : tie.Need-returns-2 Inv-loop μ-loop
 returns-2 c = out-of-room (c .before .loop .inv) (c .loop-test .left) .0
 
-pub stream-lines-spec : {M : Type 1} → statement M
-stream-lines-spec =
+pub stream-spec : {M : Type 1} → statement M
+stream-spec =
     tie.close
     (tie.spec Inv-loop μ-loop (λ c κs. search needs) loop-holds sub-loop (λ c κs. search needs) sub-keep
-    part-keep-start (λ c. omega arith) (λ c κs. search needs) same-length same-length-2 returns sub-end-line
-    part-end-line-start part-end-line-end end-line-requires add-at loop-less loop-again same-length-3 same-length-4
-    returns-2)
+    part-keep-start (λ c. omega arith) (λ c κs. search needs) same-length returns sub-end-line
+    part-end-line-start part-end-line-end end-line-requires add-at loop-less loop-again same-length-2 returns-2)
