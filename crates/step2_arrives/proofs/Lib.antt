@@ -6,4 +6,3 @@ pub mod Trials
 pub mod Shapes
 pub mod Lines
 pub mod ZeroTests
-pub mod Worked
