@@ -22,6 +22,9 @@ x ⊘ y = div binary64 x y
 abbrev pub #0 : Float
 #0 = ofBits binary64 0x0000_0000_0000_0000
 
+abbrev pub #½ : Float
+#½ = ofBits binary64 0x3FE0_0000_0000_0000
+
 abbrev pub #1 : Float
 #1 = ofBits binary64 0x3FF0_0000_0000_0000
 
