@@ -7,14 +7,22 @@ use rsruckig::util::integrate;
 
 pub fn fill(lists: &mut Lists, random: &mut Random, count: usize) {
     while lists.count < count {
-        let [t, p0, v0, a0, j] = std::array::from_fn(|_| match lists.count % 4 {
+        let numbers = std::array::from_fn(|_| match lists.count % 4 {
             0 => ordinary(random),
             1 => edge(random),
             2 if random.once_in(3) => edge(random),
             2 => ordinary(random),
             _ => anything(random),
         });
-        let (p, v, a) = integrate(t, p0, v0, a0, j);
-        lists.push(&[t, p0, v0, a0, j].map(bits).concat(), &[p, v, a].map(written).concat());
+        push(lists, numbers);
     }
+}
+
+/// One line, and the state that the Rust answers.
+pub fn push(lists: &mut Lists, numbers: [f64; 5]) -> [f64; 3] {
+    let [t, p0, v0, a0, j] = numbers;
+    let (p, v, a) = integrate(t, p0, v0, a0, j);
+    let state = [p, v, a];
+    lists.push(&numbers.map(bits).concat(), &state.map(written).concat());
+    state
 }

@@ -3,11 +3,12 @@
 //!
 //!   lists KIND SEED COUNT INPUT OUTPUT
 //!
-//! KIND is one of sqrt, cmath, roots, integrate, profile, kind00, shapes, broken.
+//! KIND is one of sqrt, cmath, roots, integrate, halving, profile, kind00, shapes, broken.
 //! `cmath` takes its cases from CPython's published test vectors and ignores SEED and
 //! COUNT.
 
 mod cmath;
+mod halving;
 mod integrate;
 mod lines;
 mod profile;
@@ -67,6 +68,7 @@ fn main() {
         "cmath" => cmath::fill(&mut lists),
         "roots" => roots::fill(&mut lists, &mut random, count),
         "integrate" => integrate::fill(&mut lists, &mut random, count),
+        "halving" => halving::fill(&mut lists, &mut random, count),
         "profile" => profile::fill(&mut lists, &mut random, count),
         "kind00" => lines::fill(&mut lists, &mut random, count, lines::check),
         "shapes" => lines::fill(&mut lists, &mut random, count, lines::shape),
