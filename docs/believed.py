@@ -32,7 +32,8 @@ LISTS = [
     ("demand 2", [("lines", "src", "answer_line"), ("lines", "src", "answered")], ["demand 1"], []),
     ("demand 3", [("line_arrives/Theorem", "proofs", "yes-arrives"),
                   ("line_arrives/Theorem", "proofs", "yes-arrives-closely")], ["demand 1", "demand 2"], []),
-    ("other theorems", [("sqrt/Nearest", "proofs", "sqrt-nearest"), ("marked_moves/Table", "proofs", "marked-moves"),
+    ("other theorems", [("sqrt/Nearest", "proofs", "sqrt-nearest"), ("float/Halving", "proofs", "halving"),
+                        ("marked_moves/Table", "proofs", "marked-moves"),
                         ("worked_lines/Worked", "proofs", "worked-arrive")],
      ["demand 1", "demand 2", "demand 3"], []),
 ]
