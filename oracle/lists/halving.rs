@@ -44,22 +44,18 @@ pub fn fill(lists: &mut Lists, random: &mut Random, count: usize) {
     }
 }
 
-fn seen([t, p0, v0, a0, j]: Numbers, state: [f64; 3]) -> [bool; COUNTED.len()] {
-    let numbers = [t, p0, v0, a0, j];
-    let half = |x: f64| x / 2.0;
+fn seen(numbers: Numbers, state: [f64; 3]) -> [bool; COUNTED.len()] {
+    let [t, _, v0, a0, j] = numbers;
+    let [p, _, a] = state;
     let huge = 2f64.powi(1022);
-    let before = {
-        let [p, _, a] = state;
-        [p, v0 + t * (a0 + t * (j / 2.0)), a]
-    };
     [
         inexact(a0),
         inexact(t * j),
         [a0, t * j].iter().any(|x| x.is_finite() && x.abs() >= huge),
         (t * j).is_infinite(),
         state.iter().any(|x| x.is_nan()),
-        !same(state, with(numbers, half, |x| x * (1.0 / 6.0))),
-        !same(state, before),
+        !same(state, with(numbers, |x| x / 2.0, |x| x * (1.0 / 6.0))),
+        !same(state, [p, v0 + t * (a0 + t * (j / 2.0)), a]),
         !same(state, with(numbers, |x| x * -0.5, |x| x / 6.0)),
     ]
 }
