@@ -1,7 +1,7 @@
-//! `profile.rs`, traced copy only: each way out of `check` reports its cause.
-//! Causes are 0 yes, 1 negative time, 2 t[3], 3 t[1], 4 t[5], 5 total, 6 velocity
-//! at zero acceleration, 7 end position, 8 end velocity, 9 end acceleration,
-//! 10 acceleration limit, 11 velocity limit.
+//! `profile.rs`, traced copy only: each way out of `check` reports its cause, and which of
+//! the tests in the text of `check` it is, counted from 1. Causes are 0 yes, 1 negative
+//! time, 2 t[3], 3 t[1], 4 t[5], 5 total, 6 velocity at zero acceleration, 7 end position,
+//! 8 end velocity, 9 end acceleration, 10 acceleration limit, 11 velocity limit.
 
 use crate::text::{between, fail, replace};
 
@@ -26,8 +26,8 @@ fn returns(check: &str) -> String {
         fail(&format!("check returns false {} times", parts.len() - 1));
     }
     let mut text = parts[0].to_string();
-    for (cause, part) in RETURNS.iter().zip(&parts[1..]) {
-        text += &format!("return crate::trace::refuse({cause});{part}");
+    for (index, (cause, part)) in RETURNS.iter().zip(&parts[1..]).enumerate() {
+        text += &format!("return crate::trace::refuse({cause}, {});{part}", 1 + index);
     }
     text
 }
@@ -47,7 +47,8 @@ fn conjuncts(check: &str) -> String {
             None if index == 0 => ("", comparison),
             _ => fail(&format!("{line:?} is no conjunct of check")),
         };
-        text += &format!("        {and}crate::trace::holds({comparison}, {cause})\n");
+        let test = 1 + RETURNS.len() + index;
+        text += &format!("        {and}crate::trace::holds({comparison}, {cause}, {test})\n");
     }
     replace(check, last, &text, 1)
 }

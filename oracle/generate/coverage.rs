@@ -8,6 +8,9 @@ use rsruckig::trace;
 
 pub const CAUSES: usize = 12;
 
+/// A yes, and the tests in the text of `check`.
+pub const TESTS: usize = 25;
+
 /// Counts by verdict, label, direction and signs.
 pub type Records = [[[[u64; 2]; 2]; 8]; 2];
 
@@ -18,6 +21,8 @@ pub struct Coverage {
     pub refusals: [u64; 9],
     /// Kind 00 by signs, label and set_limits of the line, then by cause.
     pub checks: [[[[u64; CAUSES]; 2]; 8]; 2],
+    /// Kind 00 by the test that said no.
+    pub tests: [u64; TESTS],
     /// The calls of `check` by attempt and cause.
     pub attempts: [[u64; CAUSES]; 11],
     /// The yeses by attempt and direction.
@@ -67,6 +72,7 @@ impl Coverage {
         let Asks::Shape(shape) = kind.asks else {
             let [_, signs, label, set_limits, ..] = bytes.map(usize::from);
             self.checks[signs][label][set_limits][checks[0].cause as usize] += 1;
+            self.tests[checks[0].test as usize] += 1;
             return;
         };
         self.calls[kind.number as usize][count] += 1;

@@ -6,54 +6,91 @@ use cases::attempt::{Attempt, Form, ATTEMPTS};
 use cases::kinds::{Asks, Kind, Shape, KINDS};
 
 /// What is missing, and what should not have come up.
-pub fn faults(coverage: &Coverage) -> Vec<String> {
-    let mut faults = Vec::new();
-    let mut hold = |can: bool, count: u64, name: String| match (can, count > 0) {
-        (true, false) => faults.push(format!("never came up: {name}")),
-        (false, true) => faults.push(format!("should not come up: {name}")),
-        _ => {}
-    };
+#[derive(Default)]
+pub struct Faults {
+    pub texts: Vec<String>,
+}
 
+/// Of all kinds.
+pub fn faults(coverage: &Coverage) -> Faults {
+    let mut faults = Faults::default();
     for (number, count) in coverage.refusals.iter().enumerate() {
-        hold(true, *count, format!("refusal {number}"));
+        faults.hold(true, *count, format!("refusal {number}"));
     }
-    for signs in 0..2 {
-        for label in 0..8 {
-            for set_limits in 0..2 {
-                for cause in 0..CAUSES {
-                    hold(
-                        label_has(label as u8, cause),
-                        coverage.checks[signs][label][set_limits][cause],
-                        format!(
-                            "kind 00, signs {signs}, label {label}, \
-                             set_limits {set_limits}, cause {cause}"
-                        ),
-                    );
+    faults.checks(coverage);
+    faults.attempts(coverage);
+    for kind in KINDS.iter().filter(|kind| kind.replies_record()) {
+        faults.records(coverage, kind);
+    }
+    faults.quartics(coverage);
+    for kind in &KINDS {
+        faults.classes(coverage, kind);
+    }
+    faults
+}
+
+/// Of kind 00 alone.
+pub fn faults_of_checks(coverage: &Coverage) -> Faults {
+    let kind = Kind::asking(Asks::Check);
+    let mut faults = Faults::default();
+    faults.checks(coverage);
+    faults.records(coverage, kind);
+    faults.classes(coverage, kind);
+    faults
+}
+
+impl Faults {
+    fn hold(&mut self, can: bool, count: u64, name: String) {
+        match (can, count > 0) {
+            (true, false) => self.texts.push(format!("never came up: {name}")),
+            (false, true) => self.texts.push(format!("should not come up: {name}")),
+            _ => {}
+        }
+    }
+
+    fn checks(&mut self, coverage: &Coverage) {
+        for signs in 0..2 {
+            for label in 0..8 {
+                for set_limits in 0..2 {
+                    for cause in 0..CAUSES {
+                        self.hold(
+                            label_has(label as u8, cause),
+                            coverage.checks[signs][label][set_limits][cause],
+                            format!(
+                                "kind 00, signs {signs}, label {label}, \
+                                 set_limits {set_limits}, cause {cause}"
+                            ),
+                        );
+                    }
                 }
             }
         }
-    }
-    for (index, attempt) in ATTEMPTS.iter().enumerate() {
-        let form = attempt.form;
-        for cause in 0..CAUSES {
-            hold(
-                attempt_has(attempt, cause),
-                coverage.attempts[index][cause],
-                format!("{form:?}, cause {cause}"),
-            );
-        }
-        for direction in 0..2 {
-            let count = coverage.directions[index][direction];
-            hold(true, count, format!("{form:?}, yes, direction {direction}"));
+        for (test, count) in coverage.tests.iter().enumerate() {
+            self.hold(true, *count, format!("kind 00, test {test}"));
         }
     }
-    for kind in KINDS.iter().filter(|kind| kind.replies_record()) {
+
+    fn attempts(&mut self, coverage: &Coverage) {
+        for (index, attempt) in ATTEMPTS.iter().enumerate() {
+            let form = attempt.form;
+            for cause in 0..CAUSES {
+                let count = coverage.attempts[index][cause];
+                self.hold(attempt_has(attempt, cause), count, format!("{form:?}, cause {cause}"));
+            }
+            for direction in 0..2 {
+                let count = coverage.directions[index][direction];
+                self.hold(true, count, format!("{form:?}, yes, direction {direction}"));
+            }
+        }
+    }
+
+    fn records(&mut self, coverage: &Coverage, kind: &Kind) {
         let number = kind.number;
         for verdict in 0..2 {
             for label in 0..8 {
                 for signs in 0..2 {
                     for direction in 0..2 {
-                        hold(
+                        self.hold(
                             record_comes_up(kind, verdict, label as u8, signs as u8),
                             coverage.records[number as usize][verdict][label][direction][signs],
                             format!(
@@ -66,31 +103,36 @@ pub fn faults(coverage: &Coverage) -> Vec<String> {
             }
         }
     }
-    for (kind, shape) in KINDS.iter().filter_map(|kind| Some((kind, kind.quartics_of()?))) {
-        let number = kind.number as usize;
-        for signs in 0..2 {
-            for need in 0..3 {
-                let name = format!("kind {number:02X}, signs {signs}, need {need:02X}");
-                let can = need_comes_up(shape, need);
-                hold(can, coverage.needs[number][signs][need], name.clone());
-                let yes = kind.has_answers() && need != 1;
-                hold(yes, coverage.yes_needs[number][signs][need], format!("{name}, yes"));
+
+    fn quartics(&mut self, coverage: &Coverage) {
+        for (kind, shape) in KINDS.iter().filter_map(|kind| Some((kind, kind.quartics_of()?))) {
+            let number = kind.number as usize;
+            for signs in 0..2 {
+                for need in 0..3 {
+                    let name = format!("kind {number:02X}, signs {signs}, need {need:02X}");
+                    let can = need_comes_up(shape, need);
+                    self.hold(can, coverage.needs[number][signs][need], name.clone());
+                    let yes = kind.has_answers() && need != 1;
+                    self.hold(yes, coverage.yes_needs[number][signs][need], format!("{name}, yes"));
+                }
+            }
+        }
+        for need in 0..3 {
+            for count in 0..4 {
+                let suits = [true, count == 0, count > 0][need];
+                let name = format!("need {need:02X}, count {count}");
+                self.hold(suits, coverage.counts[need][count], name);
             }
         }
     }
-    for need in 0..3 {
-        for count in 0..4 {
-            let suits = [true, count == 0, count > 0][need];
-            let name = format!("need {need:02X}, count {count}");
-            hold(suits, coverage.counts[need][count], name);
-        }
-    }
-    for (kind, row) in coverage.classes.iter().enumerate() {
+
+    fn classes(&mut self, coverage: &Coverage, kind: &Kind) {
+        let number = kind.number;
+        let row = &coverage.classes[number as usize];
         for (class, count) in ["NaN", "infinity", "-0", "subnormal"].iter().zip(row) {
-            hold(true, *count, format!("kind {kind:02X}, reply with {class}"));
+            self.hold(true, *count, format!("kind {number:02X}, reply with {class}"));
         }
     }
-    faults
 }
 
 /// Causes 2, 3 and 4 are the tests of t[3], t[1] and t[5], which only some labels

@@ -1,11 +1,11 @@
 //! Writes lines to standard output and, at the end, how often each case came up to
 //! standard error. It fails if one that can come up never did.
 //!
-//!   generate SEED COUNT [kind KK | arrivals]
+//!   generate SEED COUNT [checks | kind KK | arrivals]
 //!
-//! `kind KK` writes accepted lines of one kind only. `arrivals` writes only lines
-//! of kinds 01 to 05 with a yes within the sizes of demand 3. Neither asks for
-//! complete coverage.
+//! `checks` writes accepted lines of kind 00 only, and asks for its cases. `kind KK`
+//! writes accepted lines of one kind only. `arrivals` writes only lines of kinds 01 to 05
+//! with a yes within the sizes of demand 3. The last two do not ask for complete coverage.
 
 mod arrivals;
 mod coverage;
@@ -17,6 +17,7 @@ use cases::kinds::{Asks, Kind, KINDS};
 use cases::line::Line;
 use cases::random::Random;
 use coverage::Coverage;
+use expected::Faults;
 use std::io::{self, BufWriter, Write};
 use std::{env, process};
 
@@ -26,6 +27,7 @@ const OFTEN: [usize; 25] =
 
 enum Wanted {
     All,
+    Checks,
     Kind(&'static Kind),
     Arrivals,
 }
@@ -35,6 +37,7 @@ fn main() -> io::Result<()> {
     let words: Vec<&str> = words.iter().map(String::as_str).collect();
     let (seed, count, wanted) = match words.as_slice() {
         [seed, count] => (seed, count, Wanted::All),
+        [seed, count, "checks"] => (seed, count, Wanted::Checks),
         [seed, count, "kind", kind] => {
             let kind = usize::from_str_radix(kind, 16).expect("KK is hexadecimal");
             let kind = KINDS.get(kind).unwrap_or_else(|| panic!("there is no kind {kind:02X}"));
@@ -42,7 +45,7 @@ fn main() -> io::Result<()> {
         }
         [seed, count, "arrivals"] => (seed, count, Wanted::Arrivals),
         _ => {
-            eprintln!("use: generate SEED COUNT [kind KK | arrivals]");
+            eprintln!("use: generate SEED COUNT [checks | kind KK | arrivals]");
             process::exit(2);
         }
     };
@@ -50,6 +53,7 @@ fn main() -> io::Result<()> {
     let count: u64 = count.parse().expect("COUNT is a decimal number");
 
     let shapes: Vec<_> = KINDS.iter().filter(|kind| matches!(kind.asks, Asks::Shape(_))).collect();
+    let check = Kind::asking(Asks::Check);
     let mut out = BufWriter::with_capacity(1 << 20, io::stdout().lock());
     let mut coverage = Coverage::default();
     let mut line = Line::default();
@@ -59,6 +63,7 @@ fn main() -> io::Result<()> {
                 let kind = &KINDS[random.pick(&OFTEN)];
                 any_line::sometimes_broken(&mut random, kind, 8, &mut line);
             }
+            Wanted::Checks => any_line::accepted(&mut random, check, &mut line),
             Wanted::Kind(kind) => any_line::accepted(&mut random, kind, &mut line),
             Wanted::Arrivals => loop {
                 let kind = random.pick(&shapes);
@@ -73,15 +78,17 @@ fn main() -> io::Result<()> {
         out.write_all(b"\n")?;
     }
     out.flush()?;
-    eprint!("{}", table::text(&coverage));
-    if matches!(wanted, Wanted::All) {
-        let faults = expected::faults(&coverage);
-        for fault in &faults {
-            eprintln!("{fault}");
-        }
-        if !faults.is_empty() {
-            process::exit(1);
-        }
+    let (text, faults) = match wanted {
+        Wanted::All => (table::text(&coverage), expected::faults(&coverage)),
+        Wanted::Checks => (table::text_of_checks(&coverage), expected::faults_of_checks(&coverage)),
+        Wanted::Kind(_) | Wanted::Arrivals => (table::text(&coverage), Faults::default()),
+    };
+    eprint!("{text}");
+    for fault in &faults.texts {
+        eprintln!("{fault}");
+    }
+    if !faults.texts.is_empty() {
+        process::exit(1);
     }
     Ok(())
 }

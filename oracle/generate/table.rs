@@ -1,21 +1,78 @@
 //! The coverage as a table to read.
 
-use crate::coverage::Coverage;
+use crate::coverage::{Coverage, TESTS};
 use cases::attempt::ATTEMPTS;
 use cases::kinds::{Asks, Kind, KINDS};
-use std::fmt::Write;
+use std::fmt::{Result, Write};
+use std::ops::Range;
+
+/// In the order of the text of `check`.
+const TEST_NAMES: [&str; TESTS] = [
+    "yes",
+    "t[0] below zero",
+    "t[1] to t[6] below zero",
+    "t[3] too short",
+    "t[1] too short",
+    "t[5] too short",
+    "total time",
+    "velocity at zero acceleration",
+    "end position",
+    "end velocity",
+    "end acceleration",
+    "a[1] too low",
+    "a[1] too high",
+    "a[3] too low",
+    "a[3] too high",
+    "a[5] too low",
+    "a[5] too high",
+    "v[3] too high",
+    "v[3] too low",
+    "v[4] too high",
+    "v[4] too low",
+    "v[5] too high",
+    "v[5] too low",
+    "v[6] too high",
+    "v[6] too low",
+];
 
 pub fn text(coverage: &Coverage) -> String {
+    written(|text| {
+        writeln!(text, "lines {}", coverage.lines)?;
+        writeln!(text, "replies, then refusals 1 to 8 {:?}", coverage.refusals)?;
+        checks(coverage, text)?;
+        attempts(coverage, text)?;
+        records(coverage, 0..coverage.records.len(), text)?;
+        quartics(coverage, text)?;
+        classes(coverage, 0..coverage.classes.len(), text)
+    })
+}
+
+/// Kind 00 alone.
+pub fn text_of_checks(coverage: &Coverage) -> String {
+    written(|text| {
+        writeln!(text, "lines {}", coverage.lines)?;
+        checks(coverage, text)?;
+        records(coverage, 0..1, text)?;
+        classes(coverage, 0..1, text)
+    })
+}
+
+fn written(write: impl Fn(&mut String) -> Result) -> String {
     let mut text = String::new();
-    let _ = write(coverage, &mut text);
+    write(&mut text).expect("a string takes all");
     text
 }
 
-fn write(coverage: &Coverage, text: &mut String) -> std::fmt::Result {
-    writeln!(text, "lines {}", coverage.lines)?;
-    writeln!(text, "replies, then refusals 1 to 8 {:?}", coverage.refusals)?;
-
-    writeln!(text, "kind 00: signs, label, set_limits; by cause 0 (yes) to 11")?;
+fn checks(coverage: &Coverage, text: &mut String) -> Result {
+    writeln!(
+        text,
+        "kind 00: signs, label, set_limits; yes, then no by negative time, t[3], t[1], t[5],"
+    )?;
+    writeln!(
+        text,
+        "total, velocity at zero acceleration, end position, end velocity, end acceleration,"
+    )?;
+    writeln!(text, "acceleration limit, velocity limit (causes 0 to 11)")?;
     for signs in 0..2 {
         for label in 0..8 {
             for set_limits in 0..2 {
@@ -24,6 +81,14 @@ fn write(coverage: &Coverage, text: &mut String) -> std::fmt::Result {
             }
         }
     }
+    writeln!(text, "kind 00: the test of check that says no")?;
+    for (name, count) in TEST_NAMES.iter().zip(coverage.tests) {
+        writeln!(text, "  {name:<30}{count:>7}")?;
+    }
+    Ok(())
+}
+
+fn attempts(coverage: &Coverage, text: &mut String) -> Result {
     writeln!(text, "calls of check by attempt; by cause 0 (yes) to 11; yeses UP and DOWN")?;
     for (index, attempt) in ATTEMPTS.iter().enumerate() {
         let causes = coverage.attempts[index];
@@ -35,9 +100,13 @@ fn write(coverage: &Coverage, text: &mut String) -> std::fmt::Result {
     for kind in KINDS.iter().filter(|kind| matches!(kind.asks, Asks::Shape(_))) {
         writeln!(text, "  {:02X} {:?}", kind.number, coverage.calls[kind.number as usize])?;
     }
+    Ok(())
+}
+
+fn records(coverage: &Coverage, kinds: Range<usize>, text: &mut String) -> Result {
     writeln!(text, "replies: kind, verdict, label; by UP UDDU, UP UDUD, DOWN UDDU, DOWN UDUD")?;
-    for (kind, records) in coverage.records.iter().enumerate() {
-        for (verdict, labels) in records.iter().enumerate() {
+    for kind in kinds {
+        for (verdict, labels) in coverage.records[kind].iter().enumerate() {
             for (label, [up, down]) in labels.iter().enumerate() {
                 if up.iter().chain(down).any(|count| *count > 0) {
                     writeln!(text, "  {kind:02X} {verdict} {label} {up:?} {down:?}")?;
@@ -45,6 +114,10 @@ fn write(coverage: &Coverage, text: &mut String) -> std::fmt::Result {
             }
         }
     }
+    Ok(())
+}
+
+fn quartics(coverage: &Coverage, text: &mut String) -> Result {
     writeln!(text, "quartics: kind, signs; by need 00 to 02; yeses by need")?;
     for kind in KINDS.iter().filter(|kind| kind.quartics_of().is_some()) {
         let kind = kind.number as usize;
@@ -58,9 +131,13 @@ fn write(coverage: &Coverage, text: &mut String) -> std::fmt::Result {
     for (need, row) in coverage.counts.iter().enumerate() {
         writeln!(text, "  {need:02X} {row:?}")?;
     }
+    Ok(())
+}
+
+fn classes(coverage: &Coverage, kinds: Range<usize>, text: &mut String) -> Result {
     writeln!(text, "replies that hold NaN, infinity, -0, a subnormal")?;
-    for (kind, row) in coverage.classes.iter().enumerate() {
-        writeln!(text, "  {kind:02X} {row:?}")?;
+    for kind in kinds {
+        writeln!(text, "  {kind:02X} {:?}", coverage.classes[kind])?;
     }
     Ok(())
 }
