@@ -12,9 +12,11 @@ mkdir -p "$out"
 work=$(mktemp -d)
 trap 'rm -rf "$work"' EXIT
 
-# Makes the oracle where it is missing.
+# Makes the oracle where it is missing or older than its files, unless ORACLE names another.
 need_oracle() {
-    [ -f "$oracle/libcases.rlib" ] || "$root/oracle/build.sh" >&2
+    [ -z "${ORACLE:-}" ] || return 0
+    last=$oracle/selftest
+    [ -x "$last" ] && [ -z "$(find "$root/oracle" -type f -newer "$last")" ] || "$root/oracle/build.sh" >&2
 }
 
 # staticlib NAME: proves the crate and makes its library, which is silent unless it fails.

@@ -3,13 +3,14 @@
 
 use std::time::Instant;
 
-/// Nanoseconds a call, way by way: `work(way, turn)` does `calls` of them.
-pub fn medians(
+/// The times of each way's turns from the least to the largest, in nanoseconds a call:
+/// `work(way, turn)` does `calls` of them.
+pub fn turns(
     ways: usize,
     turns: usize,
     calls: usize,
     mut work: impl FnMut(usize, usize),
-) -> Vec<f64> {
+) -> Vec<Vec<f64>> {
     let mut times = vec![Vec::with_capacity(turns); ways];
     for turn in 0..turns {
         for (way, times) in times.iter_mut().enumerate() {
@@ -18,13 +19,25 @@ pub fn medians(
             times.push(start.elapsed().as_nanos() as f64 / calls as f64);
         }
     }
+    for times in &mut times {
+        times.sort_by(f64::total_cmp);
+    }
     times
-        .into_iter()
-        .map(|mut times| {
-            times.sort_by(f64::total_cmp);
-            times[turns / 2]
-        })
-        .collect()
+}
+
+/// Of times that `turns` gave.
+pub fn median(times: &[f64]) -> f64 {
+    times[times.len() / 2]
+}
+
+/// Way by way.
+pub fn medians(
+    ways: usize,
+    turns: usize,
+    calls: usize,
+    work: impl FnMut(usize, usize),
+) -> Vec<f64> {
+    self::turns(ways, turns, calls, work).iter().map(|times| median(times)).collect()
 }
 
 /// One line for each way: its time, and how many times that of the way `beside` it is.
