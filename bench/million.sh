@@ -6,7 +6,7 @@
 #   bench/million.sh [SEED]
 #
 # It ends with status 1 if a case of kind 00 never came up, if a reply differs, or if the port takes more than twice the
-# Rust's time. It makes the oracle where that is missing, and the static library anew unless LIBRARY names one.
+# Rust's time. It makes the oracle where that is missing or old, and the static library unless LIBRARY names one.
 set -eu
 
 . "$(dirname "$0")/begin.sh"

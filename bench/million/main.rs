@@ -59,16 +59,18 @@ fn different(lines: &[&[u8]]) -> usize {
 /// The port's time over the Rust's.
 fn measure(lines: &[&[u8]]) -> f64 {
     let mut reader = Reader::default();
-    let times = timing::turns(NAMES.len(), TURNS, 1_000_000, |way, _| match way {
+    let times = timing::turns(NAMES.len(), TURNS, 1, |way, _| match way {
         0 => answer_all(lines, port::answer),
         1 => answer_all(lines, |request, reply| reader.answer(request, reply)),
         _ => answer_all(lines, tables::answer),
     });
+    let milliseconds = |nanoseconds| nanoseconds / 1e6;
     println!("milliseconds for all lines, {TURNS} turns each: median, least");
     for (name, times) in NAMES.iter().zip(&times) {
-        println!("  {name:<28}{:7.1}{:7.1}", timing::median(times), times[0]);
+        let [median, least] = [timing::median(times), times[0]].map(milliseconds);
+        println!("  {name:<28}{median:7.1}{least:7.1}");
     }
-    let [port, rust, tables] = [0, 1, 2].map(|way| timing::median(&times[way]));
+    let [port, rust, tables] = [0, 1, 2].map(|way| milliseconds(timing::median(&times[way])));
     println!("beside the Rust with tables: ratio {:.2}", port / tables);
     println!("port {port:.0} ms, Rust {rust:.0} ms, ratio {:.2}", port / rust);
     port / rust
