@@ -4,7 +4,7 @@
 //! and for any other line, the oracle answers.
 
 use crate::{digits, tables};
-use plain::check::{LABELS, SIGNS};
+use plain::check::ask;
 use plain::frame;
 use rsruckig::profile::{ControlSigns, Direction, Profile, ReachedLimits};
 
@@ -41,21 +41,10 @@ impl Reader {
         }
         let places = reply.first_chunk_mut()?;
 
-        let [p0, v0, a0, pf, vf, af, jf, v_max, v_min, a_max, a_min] = numbers;
         let profile = &mut self.profile;
         clear(profile);
-        profile.set_boundary(p0, v0, a0, pf, vf, af);
         profile.t = frame::numbers(&bytes, frame::CHECK_TIMES);
-        let yes = profile.check(
-            SIGNS[signs as usize],
-            LABELS[label as usize],
-            set_limits == 1,
-            jf,
-            v_max,
-            v_min,
-            a_max,
-            a_min,
-        );
+        let yes = ask(profile, [signs, label, set_limits], &numbers);
         write(yes, profile, places);
         Some(())
     }

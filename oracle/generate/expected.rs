@@ -29,11 +29,12 @@ pub fn faults(coverage: &Coverage) -> Faults {
     faults
 }
 
-/// Of kind 00 alone.
+/// Of kind 00 alone, where each test has to say no; some are rare among lines of all kinds.
 pub fn faults_of_checks(coverage: &Coverage) -> Faults {
     let kind = Kind::asking(Asks::Check);
     let mut faults = Faults::default();
     faults.checks(coverage);
+    faults.tests(coverage);
     faults.records(coverage, kind);
     faults.classes(coverage, kind);
     faults
@@ -65,6 +66,9 @@ impl Faults {
                 }
             }
         }
+    }
+
+    fn tests(&mut self, coverage: &Coverage) {
         for (test, count) in coverage.tests.iter().enumerate() {
             self.hold(true, *count, format!("kind 00, test {test}"));
         }

@@ -29,11 +29,20 @@ pub fn answer(bytes: &[u8; frame::LONGEST], places: &mut [u8]) -> u32 {
         return 8;
     };
 
-    let [p0, v0, a0, pf, vf, af, jf, v_max, v_min, a_max, a_min] = numbers;
     let mut profile = Profile::default();
-    profile.set_boundary(p0, v0, a0, pf, vf, af);
     profile.t = frame::numbers(bytes, frame::CHECK_TIMES);
-    let yes = profile.check(
+    let yes = ask(&mut profile, [signs, label, set_limits], &numbers);
+    reply::write(yes, &profile, places);
+    0
+}
+
+/// `check` with the line's choices and eleven numbers, on a record that holds its times.
+#[inline(always)]
+pub fn ask(profile: &mut Profile, choices: [u8; 3], numbers: &[f64; 11]) -> bool {
+    let [signs, label, set_limits] = choices;
+    let [p0, v0, a0, pf, vf, af, jf, v_max, v_min, a_max, a_min] = *numbers;
+    profile.set_boundary(p0, v0, a0, pf, vf, af);
+    profile.check(
         SIGNS[signs as usize],
         LABELS[label as usize],
         set_limits == 1,
@@ -42,7 +51,5 @@ pub fn answer(bytes: &[u8; frame::LONGEST], places: &mut [u8]) -> u32 {
         v_min,
         a_max,
         a_min,
-    );
-    reply::write(yes, &profile, places);
-    0
+    )
 }
