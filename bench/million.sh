@@ -5,14 +5,16 @@
 #
 #   bench/million.sh [SEED]
 #
-# It ends with status 1 if a case of kind 00 never came up, if a reply differs, or if the port takes more than twice the
-# Rust's time. It makes the oracle where that is missing or old, and the static library unless LIBRARY names one.
+# It ends with status 1 if a case of kind 00 never came up, if less than a quarter of the lines have a yes, if a reply
+# differs, or if the port takes more than twice the Rust's time. It makes the oracle where that is missing or old, and
+# the static library unless LIBRARY names one. CPU is what the Rust is compiled for: x86-64, as the library is, if not
+# given.
 set -eu
 
 . "$(dirname "$0")/begin.sh"
 need_oracle
 [ -n "${LIBRARY:-}" ] || staticlib lines
-compile million million/main.rs --extern plain="$oracle/plain/liboracle.rlib" \
+compile million million/main.rs -C target-cpu="${CPU:-x86-64}" --extern plain="$oracle/plain/liboracle.rlib" \
     --extern rsruckig="$oracle/plain/librsruckig.rlib"
 echo "seed ${1:-1}"
 "$oracle/generate" "${1:-1}" 1000000 checks 2>&1 > "$work/lines"
