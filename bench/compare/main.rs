@@ -40,6 +40,9 @@ fn kinds(list: &[&str]) -> Vec<&'static Kind> {
     let Some(list) = list.first() else {
         return KINDS.iter().collect();
     };
-    let number = |word| usize::from_str_radix(word, 16).expect("a kind is hexadecimal");
-    list.split(',').map(|word| KINDS.get(number(word)).expect("a kind is 00 to 07")).collect()
+    let kind = |word| {
+        let number = u8::from_str_radix(word, 16).expect("a kind is two hexadecimal digits");
+        Kind::numbered(number).expect("the number of a kind")
+    };
+    list.split(',').map(kind).collect()
 }

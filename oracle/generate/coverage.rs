@@ -1,7 +1,7 @@
 //! Counts what came up, by asking the oracle for each line.
 
 use cases::attempt::{at_rest, index_of_call};
-use cases::kinds::{Asks, Kind};
+use cases::kinds::{Asks, Kind, COUNT};
 use oracle::quartics::{need, polynoms};
 use oracle::{answer, answer_line, digits, frame, shapes};
 use rsruckig::trace;
@@ -10,9 +10,6 @@ pub const CAUSES: usize = 12;
 
 /// A yes, and the tests in the text of `check`.
 pub const TESTS: usize = 25;
-
-/// Counts by verdict, label, direction and signs.
-pub type Records = [[[[u64; 2]; 2]; 8]; 2];
 
 #[derive(Default)]
 pub struct Coverage {
@@ -27,21 +24,31 @@ pub struct Coverage {
     pub attempts: [[u64; CAUSES]; 11],
     /// The yeses by attempt and direction.
     pub directions: [[u64; 2]; 11],
-    /// Lines by how many calls of `check` their shape made, by kind.
-    pub calls: [[u64; 9]; 8],
-    /// Replies by kind and by what their first four bytes hold.
-    pub records: [Records; 6],
-    /// Lines of kinds 02, 03, 06 and 07 by signs and need.
-    pub needs: [[[u64; 3]; 2]; 8],
     /// Accepted root answers by need and count.
     pub counts: [[u64; 4]; 3],
-    /// Yeses of kinds 02 and 03 by signs and by the need of the deciding quartic.
-    pub yes_needs: [[[u64; 3]; 2]; 8],
-    /// Replies that hold a NaN, an infinity, a -0, a subnormal, by kind.
-    pub classes: [[u64; 4]; 8],
+    kinds: [OfKind; COUNT],
+}
+
+/// What is counted for each kind by itself.
+#[derive(Default)]
+pub struct OfKind {
+    /// Lines by how many calls of `check` their shape made.
+    pub calls: [u64; 9],
+    /// Replies by verdict, label, direction and signs.
+    pub records: [[[[u64; 2]; 2]; 8]; 2],
+    /// Lines with two quartics by signs and need.
+    pub needs: [[u64; 3]; 2],
+    /// Yeses by signs and by the need of the deciding quartic.
+    pub yes_needs: [[u64; 3]; 2],
+    /// Replies that hold a NaN, an infinity, a -0, a subnormal.
+    pub classes: [u64; 4],
 }
 
 impl Coverage {
+    pub fn of(&self, kind: &Kind) -> &OfKind {
+        &self.kinds[kind.row()]
+    }
+
     pub fn add(&mut self, request: &[u8]) {
         self.lines += 1;
         trace::clear();
@@ -66,7 +73,8 @@ impl Coverage {
         let mut head = [0; 4];
         digits::read(&places[..8], &mut head);
         let [verdict, label, direction, signs] = head.map(usize::from);
-        self.records[kind.number as usize][verdict][label][direction][signs] += 1;
+        let of_kind = &mut self.kinds[kind.row()];
+        of_kind.records[verdict][label][direction][signs] += 1;
 
         let (checks, count) = trace::checks();
         let Asks::Shape(shape) = kind.asks else {
@@ -75,7 +83,7 @@ impl Coverage {
             self.tests[checks[0].test as usize] += 1;
             return;
         };
-        self.calls[kind.number as usize][count] += 1;
+        of_kind.calls[count] += 1;
         let numbers: [f64; 12] = frame::numbers(bytes, frame::NUMBERS);
         for check in &checks[..count] {
             let index = index_of_call(shape, check.signs, check.label, at_rest(&numbers));
@@ -90,14 +98,15 @@ impl Coverage {
         };
         let numbers: [f64; 12] = frame::numbers(bytes, frame::NUMBERS);
         let polynoms = polynoms(shape, &shapes::solver(&numbers), &numbers);
+        let of_kind = &mut self.kinds[kind.row()];
         for signs in 0..2 {
             let need = need(&polynoms[signs]) as usize;
-            self.needs[kind.number as usize][signs][need] += 1;
+            of_kind.needs[signs][need] += 1;
             if kind.has_answers() {
                 let count = bytes[frame::ANSWERS + signs * frame::ANSWER_LENGTH];
                 self.counts[need][count as usize] += 1;
                 let yes = places[1] == b'1' && places[7] == b'0' + signs as u8;
-                self.yes_needs[kind.number as usize][signs][need] += yes as u64;
+                of_kind.yes_needs[signs][need] += yes as u64;
             }
         }
     }
@@ -112,7 +121,7 @@ impl Coverage {
             halves.concat()
         };
         let any = |class: fn(&f64) -> bool| numbers.iter().any(class) as u64;
-        let classes = &mut self.classes[kind.number as usize];
+        let classes = &mut self.kinds[kind.row()].classes;
         classes[0] += any(|number| number.is_nan());
         classes[1] += any(|number| number.is_infinite());
         classes[2] += any(|number| number.to_bits() == 1 << 63);

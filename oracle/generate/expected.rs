@@ -96,7 +96,7 @@ impl Faults {
                     for direction in 0..2 {
                         self.hold(
                             record_comes_up(kind, verdict, label as u8, signs as u8),
-                            coverage.records[number as usize][verdict][label][direction][signs],
+                            coverage.of(kind).records[verdict][label][direction][signs],
                             format!(
                                 "kind {number:02X}, verdict {verdict}, label {label}, \
                                  direction {direction}, signs {signs}"
@@ -110,14 +110,15 @@ impl Faults {
 
     fn quartics(&mut self, coverage: &Coverage) {
         for (kind, shape) in KINDS.iter().filter_map(|kind| Some((kind, kind.quartics_of()?))) {
-            let number = kind.number as usize;
+            let number = kind.number;
+            let of_kind = coverage.of(kind);
             for signs in 0..2 {
                 for need in 0..3 {
                     let name = format!("kind {number:02X}, signs {signs}, need {need:02X}");
                     let can = need_comes_up(shape, need);
-                    self.hold(can, coverage.needs[number][signs][need], name.clone());
+                    self.hold(can, of_kind.needs[signs][need], name.clone());
                     let yes = kind.has_answers() && need != 1;
-                    self.hold(yes, coverage.yes_needs[number][signs][need], format!("{name}, yes"));
+                    self.hold(yes, of_kind.yes_needs[signs][need], format!("{name}, yes"));
                 }
             }
         }
@@ -132,8 +133,8 @@ impl Faults {
 
     fn classes(&mut self, coverage: &Coverage, kind: &Kind) {
         let number = kind.number;
-        let row = &coverage.classes[number as usize];
-        for (class, count) in ["NaN", "infinity", "-0", "subnormal"].iter().zip(row) {
+        let counts = &coverage.of(kind).classes;
+        for (class, count) in ["NaN", "infinity", "-0", "subnormal"].iter().zip(counts) {
             self.hold(true, *count, format!("kind {number:02X}, reply with {class}"));
         }
     }

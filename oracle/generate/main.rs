@@ -22,8 +22,7 @@ use std::io::{self, BufWriter, Write};
 use std::{env, process};
 
 /// The shapes get the most lines, as they have the most cases.
-const OFTEN: [usize; 25] =
-    [0, 0, 0, 0, 0, 1, 1, 1, 1, 2, 2, 2, 2, 3, 3, 3, 3, 4, 4, 4, 5, 5, 5, 6, 7];
+const OFTEN: [u8; 25] = [0, 0, 0, 0, 0, 1, 1, 1, 1, 2, 2, 2, 2, 3, 3, 3, 3, 4, 4, 4, 5, 5, 5, 6, 7];
 
 enum Wanted {
     All,
@@ -39,8 +38,8 @@ fn main() -> io::Result<()> {
         [seed, count] => (seed, count, Wanted::All),
         [seed, count, "checks"] => (seed, count, Wanted::Checks),
         [seed, count, "kind", kind] => {
-            let kind = usize::from_str_radix(kind, 16).expect("KK is hexadecimal");
-            let kind = KINDS.get(kind).unwrap_or_else(|| panic!("there is no kind {kind:02X}"));
+            let number = u8::from_str_radix(kind, 16).expect("KK is two hexadecimal digits");
+            let kind = Kind::numbered(number).expect("KK is the number of a kind");
             (seed, count, Wanted::Kind(kind))
         }
         [seed, count, "arrivals"] => (seed, count, Wanted::Arrivals),
@@ -60,7 +59,8 @@ fn main() -> io::Result<()> {
     while coverage.lines < count {
         match wanted {
             Wanted::All => {
-                let kind = &KINDS[random.pick(&OFTEN)];
+                let number = random.pick(&OFTEN);
+                let kind = Kind::numbered(number).expect("OFTEN has numbers of kinds");
                 any_line::sometimes_broken(&mut random, kind, 8, &mut line);
             }
             Wanted::Checks => any_line::accepted(&mut random, check, &mut line),

@@ -4,7 +4,6 @@ use crate::coverage::{Coverage, TESTS};
 use cases::attempt::ATTEMPTS;
 use cases::kinds::{Asks, Kind, KINDS};
 use std::fmt::{Result, Write};
-use std::ops::Range;
 
 /// In the order of the text of `check`.
 const TEST_NAMES: [&str; TESTS] = [
@@ -41,19 +40,20 @@ pub fn text(coverage: &Coverage) -> String {
         writeln!(text, "replies, then refusals 1 to 8 {:?}", coverage.refusals)?;
         checks(coverage, text)?;
         attempts(coverage, text)?;
-        records(coverage, 0..coverage.records.len(), text)?;
+        records(coverage, &KINDS, text)?;
         quartics(coverage, text)?;
-        classes(coverage, 0..coverage.classes.len(), text)
+        classes(coverage, &KINDS, text)
     })
 }
 
 /// Kind 00 alone.
 pub fn text_of_checks(coverage: &Coverage) -> String {
+    let kinds = &[*Kind::asking(Asks::Check)];
     written(|text| {
         writeln!(text, "lines {}", coverage.lines)?;
         checks(coverage, text)?;
-        records(coverage, 0..1, text)?;
-        classes(coverage, 0..1, text)
+        records(coverage, kinds, text)?;
+        classes(coverage, kinds, text)
     })
 }
 
@@ -98,18 +98,19 @@ fn attempts(coverage: &Coverage, text: &mut String) -> Result {
     }
     writeln!(text, "lines by how many calls of check, 0 to 8")?;
     for kind in KINDS.iter().filter(|kind| matches!(kind.asks, Asks::Shape(_))) {
-        writeln!(text, "  {:02X} {:?}", kind.number, coverage.calls[kind.number as usize])?;
+        writeln!(text, "  {:02X} {:?}", kind.number, coverage.of(kind).calls)?;
     }
     Ok(())
 }
 
-fn records(coverage: &Coverage, kinds: Range<usize>, text: &mut String) -> Result {
+fn records(coverage: &Coverage, kinds: &[Kind], text: &mut String) -> Result {
     writeln!(text, "replies: kind, verdict, label; by UP UDDU, UP UDUD, DOWN UDDU, DOWN UDUD")?;
     for kind in kinds {
-        for (verdict, labels) in coverage.records[kind].iter().enumerate() {
+        let number = kind.number;
+        for (verdict, labels) in coverage.of(kind).records.iter().enumerate() {
             for (label, [up, down]) in labels.iter().enumerate() {
                 if up.iter().chain(down).any(|count| *count > 0) {
-                    writeln!(text, "  {kind:02X} {verdict} {label} {up:?} {down:?}")?;
+                    writeln!(text, "  {number:02X} {verdict} {label} {up:?} {down:?}")?;
                 }
             }
         }
@@ -120,11 +121,11 @@ fn records(coverage: &Coverage, kinds: Range<usize>, text: &mut String) -> Resul
 fn quartics(coverage: &Coverage, text: &mut String) -> Result {
     writeln!(text, "quartics: kind, signs; by need 00 to 02; yeses by need")?;
     for kind in KINDS.iter().filter(|kind| kind.quartics_of().is_some()) {
-        let kind = kind.number as usize;
+        let number = kind.number;
         for signs in 0..2 {
-            let needs = coverage.needs[kind][signs];
-            let yeses = coverage.yes_needs[kind][signs];
-            writeln!(text, "  {kind:02X} {signs} {needs:?} {yeses:?}")?;
+            let needs = coverage.of(kind).needs[signs];
+            let yeses = coverage.of(kind).yes_needs[signs];
+            writeln!(text, "  {number:02X} {signs} {needs:?} {yeses:?}")?;
         }
     }
     writeln!(text, "root answers: need; by count 0 to 3")?;
@@ -134,10 +135,10 @@ fn quartics(coverage: &Coverage, text: &mut String) -> Result {
     Ok(())
 }
 
-fn classes(coverage: &Coverage, kinds: Range<usize>, text: &mut String) -> Result {
+fn classes(coverage: &Coverage, kinds: &[Kind], text: &mut String) -> Result {
     writeln!(text, "replies that hold NaN, infinity, -0, a subnormal")?;
     for kind in kinds {
-        writeln!(text, "  {kind:02X} {:?}", coverage.classes[kind])?;
+        writeln!(text, "  {:02X} {:?}", kind.number, coverage.of(kind).classes)?;
     }
     Ok(())
 }

@@ -21,8 +21,7 @@ pub fn check(random: &mut Random, line: &mut Line) {
 }
 
 pub fn shape(random: &mut Random, line: &mut Line) {
-    let kind = random.pick(&[1, 1, 2, 2, 3, 3, 4, 4, 5, 5, 6, 7]);
-    any_line::accepted(random, &KINDS[kind], line);
+    of_kind(random.pick(&[1, 1, 2, 2, 3, 3, 4, 4, 5, 5, 6, 7]), random, line);
 }
 
 /// Faulty lines, though some of the faults are none: a time may be NaN.
@@ -30,6 +29,10 @@ pub fn broken(random: &mut Random, line: &mut Line) {
     let kind = random.pick(&KINDS);
     any_line::accepted(random, &kind, line);
     broken_line::spoil(random, &kind, line);
+}
+
+fn of_kind(number: u8, random: &mut Random, line: &mut Line) {
+    any_line::accepted(random, Kind::numbered(number).expect("the number of a kind"), line);
 }
 
 struct Answered {

@@ -3,7 +3,7 @@
 //! and what those calls ask for is what the needs say, with the same arguments.
 
 use cases::any_line::sometimes_broken;
-use cases::kinds::{Asks, Shape, KINDS};
+use cases::kinds::{Asks, Kind, Shape};
 use cases::line::Line;
 use cases::random::Random;
 use oracle::quartics::{need, polynoms};
@@ -17,8 +17,9 @@ pub fn test(seed: u64, count: u64) -> usize {
     let mut line = Line::default();
     let mut compared = 0;
     for _ in 0..count {
-        let kind = random.pick(&[0, 1, 2, 2, 3, 3, 4, 5, 6, 7]);
-        sometimes_broken(&mut random, &KINDS[kind], 16, &mut line);
+        let number = random.pick(&[0, 1, 2, 2, 3, 3, 4, 5, 6, 7]);
+        let kind = Kind::numbered(number).expect("the number of a kind");
+        sometimes_broken(&mut random, kind, 16, &mut line);
         let request = &line.characters;
 
         trace::clear();

@@ -1,6 +1,6 @@
 //! Questions 1 to 4; the later ones are asked where the kind's body is read.
 
-use crate::kinds::{Asks, Kind, KINDS};
+use crate::kinds::{Asks, Kind};
 use crate::{check, digits, frame, quartics, shapes};
 
 /// The number of the first question that the line fails, with the reply
@@ -20,7 +20,7 @@ pub fn answer(request: &[u8], reply: &mut [u8]) -> Result<&'static Kind, u32> {
     if !digits::read(request, &mut bytes[..length]) {
         return Err(2);
     }
-    let kind = KINDS.get(bytes[0] as usize).ok_or(3u32)?;
+    let kind = Kind::numbered(bytes[0]).ok_or(3u32)?;
     if length != kind.bytes {
         return Err(4);
     }

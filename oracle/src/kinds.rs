@@ -36,8 +36,9 @@ pub struct Kind {
     pub asks: Asks,
 }
 
-/// By number.
-pub static KINDS: [Kind; 8] = [
+pub const COUNT: usize = 8;
+
+pub static KINDS: [Kind; COUNT] = [
     Kind { number: 0x00, bytes: 148, places: RECORD_PLACES, asks: Asks::Check },
     Kind { number: 0x01, bytes: 97, places: RECORD_PLACES, asks: Asks::Shape(Shape::Acc0Acc1Vel) },
     Kind { number: 0x02, bytes: 147, places: RECORD_PLACES, asks: Asks::Shape(Shape::Acc1Vel) },
@@ -48,7 +49,30 @@ pub static KINDS: [Kind; 8] = [
     Kind { number: 0x07, bytes: 97, places: QUARTICS_PLACES, asks: Asks::Quartics(Shape::Acc0Vel) },
 ];
 
+/// Where the row of each number stands, past the last one for a number that is no kind's.
+const ROWS: [u8; 256] = rows();
+
+const fn rows() -> [u8; 256] {
+    let mut table = [COUNT as u8; 256];
+    let mut row = 0;
+    while row < COUNT {
+        table[KINDS[row].number as usize] = row as u8;
+        row += 1;
+    }
+    table
+}
+
 impl Kind {
+    #[inline]
+    pub fn numbered(number: u8) -> Option<&'static Kind> {
+        KINDS.get(ROWS[number as usize] as usize)
+    }
+
+    /// Where its row stands, for tables that have one for each kind.
+    pub fn row(&self) -> usize {
+        ROWS[self.number as usize] as usize
+    }
+
     pub fn asking(asks: Asks) -> &'static Kind {
         KINDS.iter().find(|kind| kind.asks == asks).expect("a kind that asks this")
     }
