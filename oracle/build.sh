@@ -37,10 +37,12 @@ compile --crate-name edit "$here/edit/main.rs" -o "$out/edit"
 rustc --edition 2018 -O --cap-lints allow --crate-type rlib --crate-name arrayvec \
     "$(arrayvec_source)" -o "$out/libarrayvec.rlib"
 
-# `plain` is the oracle. `traced` also reports which tests refused and what the
-# quartics were given; the self-test compares the two line by line.
-for variant in plain traced; do
+# copy VARIANT WORD..: a copy of the Rust and the line entry over it, with further words
+# for the entry.
+copy() {
+    variant=$1
     copy=$out/$variant
+    shift
     mkdir -p "$copy"
     cp "$here"/reference/*.rs "$copy/"
     "$out/edit" "$variant" "$src/lib/src/rsruckig" "$copy"
@@ -49,9 +51,16 @@ for variant in plain traced; do
         --extern arrayvec="$out/libarrayvec.rlib" \
         "$copy/lib.rs" -o "$copy/librsruckig.rlib"
     compile --crate-type rlib --crate-name oracle -C metadata="$variant" \
-        -L dependency="$out" --extern rsruckig="$copy/librsruckig.rlib" \
+        --check-cfg 'cfg(plain)' --check-cfg 'cfg(traced)' --cfg "$variant" \
+        -L dependency="$out" --extern rsruckig="$copy/librsruckig.rlib" "$@" \
         "$here/src/lib.rs" -o "$copy/liboracle.rlib"
-done
+}
+
+# `plain` is the oracle. `traced` also reports which tests refused and what the quartics
+# were given, so it answers the kinds that ask for causes; the self-test compares the two
+# line by line.
+copy traced
+copy plain -L dependency="$out/traced" --extern traced="$out/traced/liboracle.rlib"
 
 program() {
     name=$1
@@ -64,7 +73,7 @@ program() {
         "$@" "$source" -o "$out/$name"
 }
 
-program oracle "$here/program/main.rs" plain
+program oracle "$here/program/main.rs" plain -L dependency="$out/traced"
 
 # Lines and numbers to try; they need right root answers and the traces.
 compile --crate-type rlib --crate-name cases -L dependency="$out" -L dependency="$out/traced" \

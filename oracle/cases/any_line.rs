@@ -9,7 +9,9 @@ use oracle::kinds::{Asks, Kind};
 pub fn accepted(random: &mut Random, kind: &Kind, line: &mut Line) {
     match kind.asks {
         Asks::Check => check_line::write(random, kind, line),
-        Asks::Shape(shape) | Asks::Quartics(shape) => shape_line::write(random, kind, shape, line),
+        Asks::Shape(shape) | Asks::Quartics(shape) | Asks::Causes(shape) => {
+            shape_line::write(random, kind, shape, line)
+        }
     }
 }
 

@@ -5,6 +5,7 @@ pub mod attempt;
 pub mod broken_line;
 pub mod check_line;
 pub mod line;
+mod many_roots;
 mod motion;
 mod needs;
 pub mod numbers;

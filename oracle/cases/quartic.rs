@@ -132,7 +132,8 @@ fn at_equal_factors(random: &mut Random) -> ([f64; 4], RootAnswer) {
         _ => y + (a * a - small(random)) / 4.0,
     };
     let c = if random.once_in(2) { a * y / 2.0 } else { ordinary(random) };
-    given_y(random, [a, b, c, d], y)
+    let polynom = [a, b, c, d];
+    (polynom, given_y(random, &polynom, y))
 }
 
 /// p² - 4 q of one factor about 16 EPS: (x² + p x + q)(x² + r x + s) with the y
@@ -153,17 +154,17 @@ fn at_a_double_root(random: &mut Random) -> ([f64; 4], RootAnswer) {
         (ordinary(random), ordinary(random))
     };
     let polynom = [p + r, q + s + p * r, p * s + q * r, q * s];
-    given_y(random, polynom, q + s)
+    (polynom, given_y(random, &polynom, q + s))
 }
 
 /// The quartic takes the value of largest size where the count is not 1.
-fn given_y(random: &mut Random, polynom: [f64; 4], y: f64) -> ([f64; 4], RootAnswer) {
-    if need(&polynom) != 2 {
-        return (polynom, suited_answer(random, &polynom));
+pub fn given_y(random: &mut Random, polynom: &[f64; 4], y: f64) -> RootAnswer {
+    if need(polynom) != 2 {
+        return suited_answer(random, polynom);
     }
     let count = 1 + random.below(3) as u8;
     let mut values = [y * random.unit(); 3];
     let place = if count == 1 { 0 } else { random.below(3) as usize };
     values[place] = y;
-    (polynom, RootAnswer { count, values })
+    RootAnswer { count, values }
 }

@@ -1,19 +1,23 @@
-//! Lines of kinds 01 to 07.
+//! Lines of all kinds but 00.
 
 use crate::attempt::{twelve, Attempt, ATTEMPTS};
 use crate::line::Line;
-use crate::needs;
 use crate::numbers::{any_finite, blur, edge, near, ordinary, quarters};
 use crate::quartic::suited_answer;
 use crate::random::Random;
+use crate::{many_roots, needs};
 use oracle::kinds::{Kind, Shape};
 use oracle::{quartics, shapes};
 
 /// An accepted line of the kind, which asks of the shape.
 pub fn write(random: &mut Random, kind: &Kind, shape: Shape, line: &mut Line) {
-    let numbers = numbers(random, shape);
     line.clear();
     line.byte(kind.number);
+    // Kinds 02 and 03 have none of these, so that a seed gives them the lines it always gave.
+    if kind.replies_causes() && kind.has_answers() && random.once_in(16) {
+        return many_roots::write(random, shape, line);
+    }
+    let numbers = numbers(random, shape);
     line.numbers(&numbers);
     if kind.has_answers() {
         let solver = shapes::solver(&numbers);
@@ -88,7 +92,7 @@ fn room(random: &mut Random, mut numbers: [f64; 12]) -> [f64; 12] {
 }
 
 /// The same move the other way round.
-fn mirror(numbers: [f64; 12]) -> [f64; 12] {
+pub fn mirror(numbers: [f64; 12]) -> [f64; 12] {
     let [tf, rest @ ..] = numbers;
     let [p0, v0, a0, pf, vf, af, v_max, v_min, a_max, a_min, j_max] = rest.map(|number| -number);
     [tf, p0, v0, a0, pf, vf, af, v_max, v_min, a_max, a_min, j_max]

@@ -1,7 +1,7 @@
 //! Counts what came up, by asking the oracle for each line.
 
 use cases::attempt::{at_rest, index_of_call};
-use cases::kinds::{Asks, Kind, COUNT};
+use cases::kinds::{Kind, COUNT};
 use oracle::quartics::{need, polynoms};
 use oracle::{answer, answer_line, digits, frame, shapes};
 use rsruckig::trace;
@@ -34,6 +34,8 @@ pub struct Coverage {
 pub struct OfKind {
     /// Lines by how many calls of `check` their shape made.
     pub calls: [u64; 9],
+    /// Lines of kinds 11 to 15 by the cause of the last call, 12 where there was none.
+    pub lasts: [u64; CAUSES + 1],
     /// Replies by verdict, label, direction and signs.
     pub records: [[[[u64; 2]; 2]; 8]; 2],
     /// Lines with two quartics by signs and need.
@@ -52,7 +54,7 @@ impl Coverage {
     pub fn add(&mut self, request: &[u8]) {
         self.lines += 1;
         trace::clear();
-        let mut places = [b'-'; frame::RECORD_PLACES];
+        let mut places = [b'-'; frame::LONGEST_REPLY];
         let answer = answer(request, &mut places);
         self.refusals[answer.err().unwrap_or(0) as usize] += 1;
         let Ok(kind) = answer else {
@@ -77,13 +79,19 @@ impl Coverage {
         of_kind.records[verdict][label][direction][signs] += 1;
 
         let (checks, count) = trace::checks();
-        let Asks::Shape(shape) = kind.asks else {
+        let Some(shape) = kind.shape() else {
             let [_, signs, label, set_limits, ..] = bytes.map(usize::from);
             self.checks[signs][label][set_limits][checks[0].cause as usize] += 1;
             self.tests[checks[0].test as usize] += 1;
             return;
         };
         of_kind.calls[count] += 1;
+        if kind.replies_causes() {
+            let mut calls = [0; 2];
+            digits::read(&places[frame::RECORD_PLACES..], &mut calls);
+            assert_eq!(calls[0] as usize, count);
+            of_kind.lasts[calls[1] as usize] += 1;
+        }
         let numbers: [f64; 12] = frame::numbers(bytes, frame::NUMBERS);
         for check in &checks[..count] {
             let index = index_of_call(shape, check.signs, check.label, at_rest(&numbers));
@@ -112,7 +120,7 @@ impl Coverage {
     }
 
     fn add_classes(&mut self, kind: &Kind, places: &[u8]) {
-        let mut reply = [0; frame::RECORD_PLACES / 2];
+        let mut reply = [0; frame::LONGEST_REPLY / 2];
         digits::read(&places[..kind.places], &mut reply);
         let numbers: Vec<f64> = if kind.replies_record() {
             frame::numbers::<45>(&reply, 4).to_vec()
@@ -130,7 +138,7 @@ impl Coverage {
 
     /// Question 8: the accepted line again, now with one place too few.
     fn add_short(&mut self, request: &[u8], kind: &Kind) {
-        let mut places = [b'-'; frame::RECORD_PLACES];
+        let mut places = [b'-'; frame::LONGEST_REPLY];
         let number = answer_line(request, &mut places[..kind.places - 1]);
         assert!(number == 8 && places.iter().all(|place| *place == b'-'));
         self.refusals[8] += 1;

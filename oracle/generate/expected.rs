@@ -22,6 +22,9 @@ pub fn faults(coverage: &Coverage) -> Faults {
     for kind in KINDS.iter().filter(|kind| kind.replies_record()) {
         faults.records(coverage, kind);
     }
+    for kind in KINDS.iter().filter(|kind| kind.replies_causes()) {
+        faults.calls(coverage, kind);
+    }
     faults.quartics(coverage);
     for kind in &KINDS {
         faults.classes(coverage, kind);
@@ -108,6 +111,19 @@ impl Faults {
         }
     }
 
+    fn calls(&mut self, coverage: &Coverage, kind: &Kind) {
+        let number = kind.number;
+        let shape = kind.shape().expect("a kind that runs a shape");
+        for (count, lines) in coverage.of(kind).calls.iter().enumerate() {
+            let can = count_comes_up(shape, count);
+            self.hold(can, *lines, format!("kind {number:02X}, {count} calls"));
+        }
+        for (cause, lines) in coverage.of(kind).lasts.iter().enumerate() {
+            let can = last_comes_up(shape, cause);
+            self.hold(can, *lines, format!("kind {number:02X}, cause {cause} of the last call"));
+        }
+    }
+
     fn quartics(&mut self, coverage: &Coverage) {
         for (kind, shape) in KINDS.iter().filter_map(|kind| Some((kind, kind.quartics_of()?))) {
             let number = kind.number;
@@ -167,10 +183,44 @@ fn attempt_has(attempt: &Attempt, cause: usize) -> bool {
 fn record_comes_up(kind: &Kind, verdict: usize, label: u8, signs: u8) -> bool {
     let default = verdict == 0 && label == 7 && signs == 0;
     default
-        || match kind.asks {
-            Asks::Shape(shape) => ATTEMPTS.iter().any(|other| other.calls_so(shape, signs, label)),
-            _ => true,
+        || match kind.shape() {
+            Some(shape) => ATTEMPTS.iter().any(|other| other.calls_so(shape, signs, label)),
+            None => true,
         }
+}
+
+/// How often a shape can call `check`; a yes ends all of them.
+///
+/// The first has two attempts, each under a condition of its own, so none, one or both.
+/// The fourth has one call, whichever of its two branches it takes. The fifth has three
+/// attempts and nothing that would pass one over.
+///
+/// The second and the third call it for each root of two quartics that lies within the
+/// times of the attempt. A quartic has four roots at most, two of each of the factors
+/// x² + p x + q that it is parted into, and none that is below zero. The second shape can
+/// have all eight. In the third's quartics c is 0 and one's a is the other's with the sign
+/// changed, so that one has an a not below zero. Of its factors, too, one has a p that is
+/// not: p is a q1 / (q1 - q2) and -a q2 / (q1 - q2), where q1 is not below q2, or it is
+/// (a + r) / 2 and (a - r) / 2 with a square root r. Of such a factor's two roots
+/// (-p - r) / 2 is below zero. So the third shape has seven at most.
+fn count_comes_up(shape: Shape, count: usize) -> bool {
+    match shape {
+        Shape::Acc0Acc1Vel => count <= 2,
+        Shape::Acc1Vel => count <= 8,
+        Shape::Acc0Vel => count <= 7,
+        Shape::Acc0Acc1 => count == 1,
+        Shape::Acc0 => (1..=3).contains(&count),
+    }
+}
+
+/// After a no the last call was made with the label of the shape's last attempt: the fifth
+/// shape gets to its third attempt, and in the other shapes all have the same label.
+fn last_comes_up(shape: Shape, cause: usize) -> bool {
+    let last = ATTEMPTS.iter().rfind(|attempt| attempt.shape == shape).expect("a last attempt");
+    match cause {
+        CAUSES => count_comes_up(shape, 0),
+        _ => attempt_has(last, cause),
+    }
 }
 
 /// The third shape's quartics have c = 0, so they need no cube root.

@@ -97,8 +97,12 @@ fn attempts(coverage: &Coverage, text: &mut String) -> Result {
         writeln!(text, "  {kind:02X} {:?} {causes:?} {directions:?}", attempt.form)?;
     }
     writeln!(text, "lines by how many calls of check, 0 to 8")?;
-    for kind in KINDS.iter().filter(|kind| matches!(kind.asks, Asks::Shape(_))) {
+    for kind in KINDS.iter().filter(|kind| kind.shape().is_some()) {
         writeln!(text, "  {:02X} {:?}", kind.number, coverage.of(kind).calls)?;
+    }
+    writeln!(text, "lines by the cause of the last call of check, 0 to 12")?;
+    for kind in KINDS.iter().filter(|kind| kind.replies_causes()) {
+        writeln!(text, "  {:02X} {:?}", kind.number, coverage.of(kind).lasts)?;
     }
     Ok(())
 }

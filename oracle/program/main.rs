@@ -3,12 +3,12 @@
 //!
 //!   oracle [PLACES]
 //!
-//! PLACES is how many places the reply is lent, 728 if not given.
+//! PLACES is how many places the reply is lent, 732 if not given.
 
 mod line_feed;
 
 use oracle::answer;
-use oracle::frame::{LONGEST, RECORD_PLACES};
+use oracle::frame::{LONGEST, LONGEST_REPLY};
 use std::io::{self, Read, Write};
 
 /// Large blocks, so that reading and writing cost little beside the answers.
@@ -26,7 +26,7 @@ struct Output<W: Write> {
 
 impl<W: Write> Output<W> {
     fn answer(&mut self, request: &[u8]) -> io::Result<()> {
-        if self.block.len() - self.filled < RECORD_PLACES + 1 {
+        if self.block.len() - self.filled < LONGEST_REPLY + 1 {
             self.flush()?;
         }
         let room = &mut self.block[self.filled..];
@@ -81,13 +81,13 @@ fn run(mut from: impl Read, output: &mut Output<impl Write>) -> io::Result<()> {
 fn main() -> io::Result<()> {
     let lent: usize = match std::env::args().nth(1) {
         Some(word) => word.parse().expect("PLACES is a decimal number"),
-        None => RECORD_PLACES,
+        None => LONGEST_REPLY,
     };
     let mut output = Output {
         block: vec![0; BLOCK],
         filled: 0,
         // No reply is longer, so more places change nothing.
-        lent: lent.min(RECORD_PLACES),
+        lent: lent.min(LONGEST_REPLY),
         to: io::stdout().lock(),
     };
     run(io::stdin().lock(), &mut output)

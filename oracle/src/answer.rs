@@ -1,5 +1,7 @@
 //! Questions 1 to 4; the later ones are asked where the kind's body is read.
 
+#[cfg(traced)]
+use crate::causes;
 use crate::kinds::{Asks, Kind};
 use crate::{check, digits, frame, quartics, shapes};
 
@@ -28,6 +30,10 @@ pub fn answer(request: &[u8], reply: &mut [u8]) -> Result<&'static Kind, u32> {
         Asks::Check => check::answer(&bytes, reply),
         Asks::Shape(shape) => shapes::answer(shape, &bytes, reply),
         Asks::Quartics(shape) => quartics::answer(shape, &bytes, reply),
+        #[cfg(traced)]
+        Asks::Causes(shape) => causes::answer(shape, &bytes, reply),
+        #[cfg(not(traced))]
+        Asks::Causes(_) => traced::answer_line(request, reply),
     };
     if number == 0 {
         Ok(kind)

@@ -7,7 +7,7 @@ pub const LONGEST: usize = 148;
 pub const CHECK_TIMES: usize = 4;
 pub const CHECK_NUMBERS: usize = CHECK_TIMES + 7 * 8;
 
-/// Where the twelve numbers of kinds 01 to 07 begin.
+/// Where the twelve numbers of all other kinds begin.
 pub const NUMBERS: usize = 1;
 
 /// Where the two root answers begin, and how long one is: a count and three
@@ -15,9 +15,13 @@ pub const NUMBERS: usize = 1;
 pub const ANSWERS: usize = NUMBERS + 12 * 8;
 pub const ANSWER_LENGTH: usize = 1 + 3 * 8;
 
-/// A record's reply and the quartics' reply, in places.
+/// A record's reply, that with the calls of `check` after it, and the quartics' reply, in
+/// places.
 pub const RECORD_PLACES: usize = 728;
+pub const CAUSES_PLACES: usize = RECORD_PLACES + 4;
 pub const QUARTICS_PLACES: usize = 228;
+
+pub const LONGEST_REPLY: usize = CAUSES_PLACES;
 
 #[inline]
 pub fn number(frame: &[u8], at: usize) -> f64 {

@@ -1,6 +1,6 @@
 //! The kinds of line, a row each. Whatever depends on a line's kind is read from here.
 
-use crate::frame::{QUARTICS_PLACES, RECORD_PLACES};
+use crate::frame::{CAUSES_PLACES, QUARTICS_PLACES, RECORD_PLACES};
 
 /// The five shapes of step 2.
 #[derive(Clone, Copy, PartialEq, Debug)]
@@ -24,6 +24,8 @@ pub enum Asks {
     Check,
     Shape(Shape),
     Quartics(Shape),
+    /// A shape, and which test of its last call of `check` said no.
+    Causes(Shape),
 }
 
 #[derive(Clone, Copy)]
@@ -36,7 +38,7 @@ pub struct Kind {
     pub asks: Asks,
 }
 
-pub const COUNT: usize = 8;
+pub const COUNT: usize = 13;
 
 pub static KINDS: [Kind; COUNT] = [
     Kind { number: 0x00, bytes: 148, places: RECORD_PLACES, asks: Asks::Check },
@@ -47,6 +49,11 @@ pub static KINDS: [Kind; COUNT] = [
     Kind { number: 0x05, bytes: 97, places: RECORD_PLACES, asks: Asks::Shape(Shape::Acc0) },
     Kind { number: 0x06, bytes: 97, places: QUARTICS_PLACES, asks: Asks::Quartics(Shape::Acc1Vel) },
     Kind { number: 0x07, bytes: 97, places: QUARTICS_PLACES, asks: Asks::Quartics(Shape::Acc0Vel) },
+    Kind { number: 0x11, bytes: 97, places: CAUSES_PLACES, asks: Asks::Causes(Shape::Acc0Acc1Vel) },
+    Kind { number: 0x12, bytes: 147, places: CAUSES_PLACES, asks: Asks::Causes(Shape::Acc1Vel) },
+    Kind { number: 0x13, bytes: 147, places: CAUSES_PLACES, asks: Asks::Causes(Shape::Acc0Vel) },
+    Kind { number: 0x14, bytes: 97, places: CAUSES_PLACES, asks: Asks::Causes(Shape::Acc0Acc1) },
+    Kind { number: 0x15, bytes: 97, places: CAUSES_PLACES, asks: Asks::Causes(Shape::Acc0) },
 ];
 
 /// Where the row of each number stands, past the last one for a number that is no kind's.
@@ -77,21 +84,34 @@ impl Kind {
         KINDS.iter().find(|kind| kind.asks == asks).expect("a kind that asks this")
     }
 
-    /// Kinds 00 to 05; the others reply with two quartics.
+    /// The others reply with two quartics.
     pub fn replies_record(&self) -> bool {
         !matches!(self.asks, Asks::Quartics(_))
     }
 
-    /// Kinds 02 and 03: the frame ends with two root answers.
-    pub fn has_answers(&self) -> bool {
-        matches!(self.asks, Asks::Shape(shape) if shape.takes_roots())
+    /// Kinds 11 to 15: the calls of `check` come after the record.
+    pub fn replies_causes(&self) -> bool {
+        matches!(self.asks, Asks::Causes(_))
     }
 
-    /// The shape that has the two quartics of kinds 02, 03, 06 and 07.
+    /// The shape that is run, if one is.
+    pub fn shape(&self) -> Option<Shape> {
+        match self.asks {
+            Asks::Shape(shape) | Asks::Causes(shape) => Some(shape),
+            _ => None,
+        }
+    }
+
+    /// Kinds 02, 03, 12 and 13: the frame ends with two root answers.
+    pub fn has_answers(&self) -> bool {
+        self.shape().is_some_and(Shape::takes_roots)
+    }
+
+    /// The shape that has the line's two quartics, if it has any.
     pub fn quartics_of(&self) -> Option<Shape> {
         match self.asks {
-            Asks::Shape(shape) | Asks::Quartics(shape) if shape.takes_roots() => Some(shape),
-            _ => None,
+            Asks::Quartics(shape) => Some(shape),
+            _ => self.shape().filter(|shape| shape.takes_roots()),
         }
     }
 }

@@ -1,8 +1,13 @@
 //! The line entry of document 01 in Rust, over the build-time copy of the
 //! sources. `answer_line` has the shape of the C entry: a request, a lent reply,
 //! and a number that is 0 for a reply.
+//!
+//! It is built over each of the two copies. The plain one has no calls of `check` to tell,
+//! so what is built over it hands lines of kinds 11 to 15 to the other, its crate `traced`.
 
 mod answer;
+#[cfg(traced)]
+pub mod causes;
 pub mod check;
 pub mod digits;
 pub mod frame;

@@ -1,4 +1,5 @@
-//! Kinds 01 to 05: one shape from a default record.
+//! Kinds 01 to 05, and what 11 to 15 have in common with them: one shape from a default
+//! record.
 
 use crate::kinds::Shape;
 use crate::quartics::{need, polynoms};
@@ -8,6 +9,16 @@ use rsruckig::position_third_step2::PositionThirdOrderStep2;
 use rsruckig::profile::Profile;
 
 pub fn answer(shape: Shape, bytes: &[u8; frame::LONGEST], places: &mut [u8]) -> u32 {
+    answer_by(reply::write, shape, bytes, places)
+}
+
+/// With the reply that `write` makes of the verdict and the record.
+pub fn answer_by<const PLACES: usize>(
+    write: impl FnOnce(bool, &Profile, &mut [u8; PLACES]),
+    shape: Shape,
+    bytes: &[u8; frame::LONGEST],
+    places: &mut [u8],
+) -> u32 {
     let numbers: [f64; 12] = frame::numbers(bytes, frame::NUMBERS);
     let answers = if shape.takes_roots() {
         [0, 1].map(|index| root_answer(bytes, index))
@@ -36,7 +47,7 @@ pub fn answer(shape: Shape, bytes: &[u8; frame::LONGEST], places: &mut [u8]) -> 
     let mut profile = Profile::default();
     profile.set_boundary(p0, v0, a0, pf, vf, af);
     let yes = ask(shape, &mut solver, &mut profile, &numbers);
-    reply::write(yes, &profile, places);
+    write(yes, &profile, places);
     0
 }
 

@@ -1,0 +1,22 @@
+//! Kinds 11 to 15: kinds 01 to 05, with the count of the shape's calls of `check` and the
+//! cause of the last one after the record. Both are what the traced copy reports.
+
+use crate::kinds::Shape;
+use crate::{digits, frame, reply, shapes};
+use rsruckig::profile::Profile;
+use rsruckig::trace;
+
+pub fn answer(shape: Shape, bytes: &[u8; frame::LONGEST], places: &mut [u8]) -> u32 {
+    trace::clear();
+    shapes::answer_by(write, shape, bytes, places)
+}
+
+/// The record, and the calls since the trace was cleared.
+pub fn write(yes: bool, profile: &Profile, places: &mut [u8; frame::CAUSES_PLACES]) {
+    let (record, calls) = places.split_at_mut(frame::RECORD_PLACES);
+    reply::write(yes, profile, record.try_into().unwrap());
+    let (count, cause) = trace::last();
+    for (byte, pair) in [count, cause].into_iter().zip(calls.chunks_exact_mut(2)) {
+        digits::write_byte(byte, pair.try_into().unwrap());
+    }
+}
