@@ -24,6 +24,10 @@ pub fn shape(random: &mut Random, line: &mut Line) {
     of_kind(random.pick(&[1, 1, 2, 2, 3, 3, 4, 4, 5, 5, 6, 7]), random, line);
 }
 
+pub fn causes(random: &mut Random, line: &mut Line) {
+    of_kind(random.pick(&[0x11, 0x12, 0x13, 0x14, 0x15]), random, line);
+}
+
 /// Faulty lines, though some of the faults are none: a time may be NaN.
 pub fn broken(random: &mut Random, line: &mut Line) {
     let kind = random.pick(&KINDS);
@@ -76,7 +80,7 @@ fn in_turn<T>(cases: BTreeMap<Vec<u8>, Vec<T>>) -> Vec<T> {
 fn answer(request: &[u8]) -> Answered {
     trace::clear();
     hand_in::set([hand_in::RootAnswer::default(); 2]);
-    let mut places = [0; frame::RECORD_PLACES];
+    let mut places = [0; frame::LONGEST_REPLY];
     let kind = match oracle::answer(request, &mut places) {
         Ok(kind) => kind,
         Err(number) => {
@@ -101,10 +105,10 @@ fn answer(request: &[u8]) -> Answered {
     if let Some(last) = calls.checked_sub(1).map(|index| checks[index]) {
         case.extend_from_slice(&[last.signs, last.label, last.cause]);
     }
-    match kind.asks {
-        Asks::Check => case.extend_from_slice(&request[2..8]),
-        Asks::Shape(Shape::Acc0Acc1) => case.push(at_rest(&twelve(request)) as u8),
-        _ => {
+    match kind.shape() {
+        None => case.extend_from_slice(&request[2..8]),
+        Some(Shape::Acc0Acc1) => case.push(at_rest(&twelve(request)) as u8),
+        Some(_) => {
             let (quartics, ran) = hand_in::quartics();
             case.extend(quartics[..ran].iter().map(|quartic| quartic.asked));
         }

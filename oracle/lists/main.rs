@@ -3,9 +3,9 @@
 //!
 //!   lists KIND SEED COUNT INPUT OUTPUT
 //!
-//! KIND is one of sqrt, cmath, roots, integrate, halving, profile, kind00, shapes, broken.
-//! `cmath` takes its cases from CPython's published test vectors and ignores SEED and
-//! COUNT.
+//! KIND is one of sqrt, cmath, roots, integrate, halving, profile, kind00, shapes, causes,
+//! broken. `cmath` takes its cases from CPython's published test vectors and ignores SEED
+//! and COUNT.
 
 mod cmath;
 mod halving;
@@ -72,6 +72,7 @@ fn main() {
         "profile" => profile::fill(&mut lists, &mut random, count),
         "kind00" => lines::fill(&mut lists, &mut random, count, lines::check),
         "shapes" => lines::fill(&mut lists, &mut random, count, lines::shape),
+        "causes" => lines::fill(&mut lists, &mut random, count, lines::causes),
         "broken" => lines::fill(&mut lists, &mut random, count, lines::broken),
         _ => {
             eprintln!("lists: no list is called {kind}");

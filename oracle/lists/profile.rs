@@ -1,8 +1,9 @@
 //! Functions that no line reaches. In: the bytes of a kind 00 frame with j_max and tf
 //! after them, the first byte saying what is called: 00 `set_boundary`, `check` and
 //! then `check_with_timing` on what `check` left, 01 `check_with_timing`, 02
-//! `check_with_timing_full`; or 03 and a number, for `is_finite`. Out: the record of
-//! each call as in a line's reply, after the verdict; or 00 or 01.
+//! `check_with_timing_full`; or 03 and a number, for `is_finite`. Out: for each call the
+//! verdict and the record as in a line's reply, and as in those of kinds 11 to 15 how many
+//! calls of `check` this record has seen and the cause of the last one; or 00 or 01.
 
 use crate::{bits, Lists};
 use cases::any_line;
@@ -11,8 +12,9 @@ use cases::line::Line;
 use cases::numbers::{any_finite, anything, edge, not_finite, ordinary, step};
 use cases::random::Random;
 use oracle::check::{LABELS, SIGNS};
-use oracle::{digits, frame, reply};
+use oracle::{causes, digits, frame};
 use rsruckig::profile::{ControlSigns, Profile, ReachedLimits};
+use rsruckig::trace;
 
 /// J_EPS of the Rust.
 const TOLERANCE: f64 = 1e-12;
@@ -134,6 +136,7 @@ fn push_record(lists: &mut Lists, random: &mut Random, what: u8, yes: bool) {
     line.numbers(&[j_max, tf]);
 
     let mut profile = asked.profile();
+    trace::clear();
     let mut output = Vec::new();
     match what {
         0 => {
@@ -155,8 +158,8 @@ fn push_record(lists: &mut Lists, random: &mut Random, what: u8, yes: bool) {
 }
 
 fn write(yes: bool, profile: &Profile, output: &mut Vec<u8>) {
-    let mut places = [0; frame::RECORD_PLACES];
-    reply::write(yes, profile, &mut places);
+    let mut places = [0; frame::CAUSES_PLACES];
+    causes::write(yes, profile, &mut places);
     output.extend_from_slice(&places);
 }
 
