@@ -2,40 +2,44 @@
 //! taken out of the shapes give bit for bit what the shapes' own calls receive;
 //! and what those calls ask for is what the needs say, with the same arguments.
 
+use crate::causes;
 use cases::any_line::sometimes_broken;
-use cases::kinds::{Asks, Kind, Shape};
+use cases::kinds::{Kind, Shape};
 use cases::line::Line;
 use cases::random::Random;
 use oracle::quartics::{need, polynoms};
 use oracle::{answer, digits, frame, shapes};
+use rsruckig::hand_in;
 use rsruckig::roots::resolvent_arguments;
-use rsruckig::{hand_in, trace};
 
-/// Returns how many quartics were compared.
-pub fn test(seed: u64, count: u64) -> usize {
+const NUMBERS: [u8; 17] = [0, 1, 2, 2, 3, 3, 4, 5, 6, 7, 0x11, 0x12, 0x12, 0x13, 0x13, 0x14, 0x15];
+
+/// Returns how many quartics were compared, and how many lines had their causes tried.
+pub fn test(seed: u64, count: u64) -> (usize, usize) {
     let mut random = Random::new(seed);
     let mut line = Line::default();
     let mut compared = 0;
+    let mut tried = 0;
     for _ in 0..count {
-        let number = random.pick(&[0, 1, 2, 2, 3, 3, 4, 5, 6, 7]);
+        let number = random.pick(&NUMBERS);
         let kind = Kind::numbered(number).expect("the number of a kind");
         sometimes_broken(&mut random, kind, 16, &mut line);
         let request = &line.characters;
 
-        trace::clear();
-        let mut traced = [b'-'; frame::RECORD_PLACES];
+        let mut traced = [b'-'; frame::LONGEST_REPLY];
         let mut untraced = traced;
         let answer = answer(request, &mut traced);
         assert_eq!(answer.err().unwrap_or(0), plain::answer_line(request, &mut untraced));
         assert_eq!(traced, untraced);
-        match answer.map(|kind| kind.asks) {
-            Ok(Asks::Shape(shape)) if shape.takes_roots() => {
-                compared += compare_quartics(shape, request)
-            }
-            _ => {}
+        if let Some(shape) = answer.ok().filter(|kind| kind.has_answers()).and_then(Kind::shape) {
+            compared += compare_quartics(shape, request);
+        }
+        if let [b'1', b'1'..=b'5', ..] = request[..] {
+            let lent = random.pick(&[727, 728, 731, 732, 732, 732, 732, 732]);
+            tried += causes::test(request, lent) as usize;
         }
     }
-    compared
+    (compared, tried)
 }
 
 fn compare_quartics(shape: Shape, request: &[u8]) -> usize {

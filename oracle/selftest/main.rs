@@ -3,6 +3,7 @@
 //!
 //!   selftest SEED COUNT
 
+mod causes;
 mod edits;
 mod moves;
 
@@ -16,6 +17,7 @@ fn main() {
     };
     let moves = moves::test();
     println!("{moves} moves of document 01 hold");
-    let quartics = edits::test(seed, count);
+    let (quartics, causes) = edits::test(seed, count);
     println!("{count} lines answered alike, {quartics} quartics as taken out of the source");
+    println!("{causes} lines of kinds 11 to 15 as those of 01 to 05, their causes found again");
 }
