@@ -1,7 +1,7 @@
 #!/bin/sh
 # Puts generated lines to the oracle and to the port, and compares every reply, character by character.
 #
-#   oracle/compare.sh SEED COUNT [KIND..]     COUNT accepted lines of each kind; all of 00 to 07 where none is named
+#   oracle/compare.sh SEED COUNT [KIND..]     COUNT accepted lines of each kind; all kinds where none is named
 #
 # Needs target/bin/moves_list, which `rt check moves_list` makes, and target/oracle, which oracle/build.sh makes.
 set -eu
@@ -12,7 +12,7 @@ port=$root/target/bin/moves_list
 seed=$1
 count=$2
 shift 2
-[ $# -gt 0 ] || set -- 00 01 02 03 04 05 06 07
+[ $# -gt 0 ] || set -- 00 01 02 03 04 05 06 07 11 12 13 14 15
 
 [ -x "$oracle/generate" ] || "$root/oracle/build.sh"
 [ -x "$port" ] || (cd "$root" && rt check moves_list)

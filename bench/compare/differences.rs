@@ -104,6 +104,7 @@ fn any_places(random: &mut Random) -> usize {
         0 => random.below(MOST as u64 + 1) as usize,
         1 => 226 + random.below(4) as usize,
         2 => 726 + random.below(4) as usize,
+        3 => 730 + random.below(4) as usize,
         _ => port::LONGEST_REPLY,
     }
 }

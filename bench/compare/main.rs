@@ -4,7 +4,7 @@
 //!   compare lines SEED MILLIONS [KINDS]   the generator's lines to both; counts differences
 //!   compare speed SEED [KINDS]            time of accepted lines a kind, and the ratios
 //!
-//! KINDS is a list of kinds such as 00,01,05; all eight if not given.
+//! KINDS is a list of kinds such as 00,01,15; all of them if not given.
 
 mod differences;
 mod port;

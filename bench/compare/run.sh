@@ -8,7 +8,7 @@
 # lent places, to both sides and counts differences; million k has the seed
 # SEED + k, so that one can be run again by itself. `speed` prints nanoseconds a
 # line and the port's time over the Rust's, kind by kind. KINDS is a list such as
-# 00,01,05. It ends with status 1 if there is a difference.
+# 00,01,15, all kinds if not given. It ends with status 1 if there is a difference.
 #
 # It needs the oracle (oracle/build.sh) and the static library (rt staticlib lines),
 # and makes what is missing.
