@@ -1,5 +1,5 @@
-//! The Rust's line entry, out of the oracle. It is that of the plain copy, which hands lines
-//! of kinds 11 to 15 to the traced one.
+//! The Rust's line entry, out of the oracle: that over the plain copy, which hands frames of
+//! kinds 11 to 15 to the traced one.
 
 /// The number, and how many places the reply fills.
 pub fn answer(request: &[u8], reply: &mut [u8]) -> (u32, usize) {

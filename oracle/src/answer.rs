@@ -4,6 +4,8 @@
 use crate::causes;
 use crate::kinds::{Asks, Kind};
 use crate::{check, digits, frame, quartics, shapes};
+#[cfg(not(traced))]
+use traced::causes;
 
 /// The number of the first question that the line fails, with the reply
 /// untouched; or 0, with exactly the reply's places filled.
@@ -30,10 +32,7 @@ pub fn answer(request: &[u8], reply: &mut [u8]) -> Result<&'static Kind, u32> {
         Asks::Check => check::answer(&bytes, reply),
         Asks::Shape(shape) => shapes::answer(shape, &bytes, reply),
         Asks::Quartics(shape) => quartics::answer(shape, &bytes, reply),
-        #[cfg(traced)]
-        Asks::Causes(shape) => causes::answer(shape, &bytes, reply),
-        #[cfg(not(traced))]
-        Asks::Causes(_) => traced::answer_line(request, reply),
+        Asks::Causes(_) => causes::answer(&bytes, reply),
     };
     if number == 0 {
         Ok(kind)

@@ -1,12 +1,14 @@
 //! Kinds 11 to 15: kinds 01 to 05, with the count of the shape's calls of `check` and the
 //! cause of the last one after the record. Both are what the traced copy reports.
 
-use crate::kinds::Shape;
+use crate::kinds::Kind;
 use crate::{digits, frame, reply, shapes};
 use rsruckig::profile::Profile;
 use rsruckig::trace;
 
-pub fn answer(shape: Shape, bytes: &[u8; frame::LONGEST], places: &mut [u8]) -> u32 {
+/// The shape is read from the frame's kind, as the plain entry has a `Shape` of its own.
+pub fn answer(bytes: &[u8; frame::LONGEST], places: &mut [u8]) -> u32 {
+    let shape = Kind::numbered(bytes[0]).and_then(Kind::shape).expect("a kind that runs a shape");
     trace::clear();
     shapes::answer_by(write, shape, bytes, places)
 }

@@ -2,8 +2,8 @@
 //! sources. `answer_line` has the shape of the C entry: a request, a lent reply,
 //! and a number that is 0 for a reply.
 //!
-//! It is built over each of the two copies. The plain one has no calls of `check` to tell,
-//! so what is built over it hands lines of kinds 11 to 15 to the other, its crate `traced`.
+//! It is built over each of the two copies. The plain one reports no calls of `check`, so
+//! the entry over it hands frames of kinds 11 to 15 to the other entry, its crate `traced`.
 
 mod answer;
 #[cfg(traced)]
