@@ -57,10 +57,10 @@ fn second(random: &mut Random) -> ([f64; 12], [f64; 2]) {
     (numbers, [r * s + t * u; 2])
 }
 
-/// The third shape. UDUD's quartic leaves c out where y² is 4 d. It may then have four
-/// roots, two of x² - (m + e) x + q and two of x² - (m - e) x + q, none of them above
-/// m = a_max / j_max, the longest time. UDDU's has a positive a: one factor alone has roots
-/// above zero, two if y² is little above 4 d, and a_min bounds them.
+/// The third shape. UDUD's quartic is parted without its c where y² is 4 d. It may then have
+/// four roots, two of x² - (m + e) x + q and two of x² - (m - e) x + q, none of them above
+/// m = a_max / j_max, the longest time. UDDU's has an a above zero and so two roots at most:
+/// two of one factor if y² is little above 4 d. They are bounded by a_min.
 fn third(random: &mut Random) -> ([f64; 12], [f64; 2]) {
     let m = random.between(2.0, 8.0);
     let tf = m * random.between(10.0, 30.0);
@@ -70,9 +70,9 @@ fn third(random: &mut Random) -> ([f64; 12], [f64; 2]) {
     (numbers, [of_uddu * (1.0 + 10f64.powf(random.between(-3.0, -0.3))), of_udud])
 }
 
-/// A third root of UDDU's, above the bound of the exact ones, is 0 by rounding: the other
-/// factor's p² is so large that p² - 4 q is the same again. So y² is above 4 d by a few units
-/// of the last place, one of UDDU's roots is very large, and tf is still larger.
+/// The same with a third root of UDDU's, which rounding makes 0: the other factor's p² is so
+/// large that p² - 4 q is the same again. For that y² is above 4 d by a few units of the last
+/// place only. The larger root of the first factor is very large then, and tf has to be, too.
 fn third_by_rounding(random: &mut Random) -> ([f64; 12], [f64; 2]) {
     let m = random.between(2.0, 8.0);
     let tf = m * random.between(27.0, 30.0).exp2();

@@ -199,10 +199,11 @@ fn record_comes_up(kind: &Kind, verdict: usize, label: u8, signs: u8) -> bool {
 /// times of the attempt. A quartic has four roots at most, two of each of the factors
 /// x² + p x + q that it is parted into, and none that is below zero. The second shape can
 /// have all eight. In the third's quartics c is 0 and one's a is the other's with the sign
-/// changed, so that one has an a not below zero. Of its factors, too, one has a p that is
-/// not: p is a q1 / (q1 - q2) and -a q2 / (q1 - q2), where q1 is not below q2, or it is
-/// (a + r) / 2 and (a - r) / 2 with a square root r. Of such a factor's two roots
-/// (-p - r) / 2 is below zero. So the third shape has seven at most.
+/// changed, so that one has an a not below zero. That one has three roots at most, which
+/// leaves seven: if it needs no answer, they are 0 and two more; and else one of its factors,
+/// too, has a p not below zero, whose root (-p - r) / 2 is. For the p are a q1 / (q1 - q2)
+/// and -a q2 / (q1 - q2), where q1 is not below q2, or (a + r) / 2 and (a - r) / 2; each r is
+/// a square root.
 fn count_comes_up(shape: Shape, count: usize) -> bool {
     match shape {
         Shape::Acc0Acc1Vel => count <= 2,
