@@ -1,2 +1,3 @@
--- The labels and the sign patterns, case by case.
+-- The labels and the sign patterns, case by case; tests in a row.
 pub mod ByLabel
+pub mod Failing

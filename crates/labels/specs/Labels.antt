@@ -11,6 +11,8 @@ use Rattle.labels.specs.declared.Direction.{Direction}
 use Rattle.labels.specs.declared.Direction.the-variants.{UP, DOWN}
 use Rattle.labels.specs.declared.ControlSigns.{ControlSigns}
 use Rattle.labels.specs.declared.ControlSigns.the-variants.{UDDU, UDUD}
+use Rattle.labels.specs.declared.causes.Cause.{Cause}
+use Rattle.labels.specs.declared.causes.Cause.the-variants.{NoCall}
 use Rattle.labels.specs.declared.Labels.{Labels}
 
 abbrev pub labelNumber : ReachedLimits → ℕ
@@ -39,9 +41,10 @@ labelOf n = getD (Acc0Acc1Vel ∷ Vel ∷ Acc0 ∷ Acc1 ∷ Acc0Acc1 ∷ Acc0Vel
 abbrev pub signsOf : ℕ → ControlSigns
 signsOf n = cond (eqb n 0) UDDU UDUD
 
-abbrev pub labels : ReachedLimits → Direction → ControlSigns → Labels
-labels l d c = record { limits = l; direction = d; «control_signs» = c }
+-- with the count of the calls of `check` and the cause of the last
+abbrev pub labels : ReachedLimits → Direction → ControlSigns → ℕ → Cause → Labels
+labels l d s n c = record { limits = l; direction = d; «control_signs» = s; calls = n; cause = c }
 
--- those of a default profile
+-- those of a default profile: no call yet
 abbrev pub startLabels : Labels
-startLabels = labels None UP UDDU
+startLabels = labels None UP UDDU 0 NoCall

@@ -1,7 +1,9 @@
 // The labels of a record: which limits a move reaches, its direction and its control signs; as document 01's numbers,
-// and back.
+// and back. With them what the calls of `check` came to: how many there were, and the cause of the last.
+pub mod causes;
 pub mod tests;
 
+use causes::Cause;
 ghost use mathlib.Core.Path.{_≡_};
 ghost use Rattle.labels.specs.Labels.{labelNumber, directionNumber, signsNumber};
 ghost use Rattle.labels.specs.Labels.{labelOf, signsOf, startLabels};
@@ -27,7 +29,10 @@ pub enum ControlSigns {
     UDUD,
 }
 
+// With count and cause at the end a line of kinds 01 to 05 takes one to two in a hundred longer.
 pub struct Labels {
+    pub calls: u8,
+    pub cause: Cause,
     pub limits: ReachedLimits,
     pub direction: Direction,
     pub control_signs: ControlSigns,
@@ -110,5 +115,7 @@ pub fn start_labels() -> Labels
         limits: ReachedLimits::None,
         direction: Direction::UP,
         control_signs: ControlSigns::UDDU,
+        calls: 0,
+        cause: Cause::NoCall,
     }
 }
