@@ -2,6 +2,7 @@
 use float::near;
 use float::pick;
 use labels::Direction;
+use labels::causes::Cause;
 use row::A;
 use row::AF;
 use row::NUMBERS;
@@ -11,7 +12,9 @@ use row::V;
 use row::VF;
 ghost use mathlib.Core.Path.{_≡_};
 ghost use Rattle.row.specs.Row.{numbersIn};
-ghost use Rattle.limits.specs.Limits.{directionOf, bandOf, arrivedOf, withinOf, keptOf};
+ghost use Rattle.labels.specs.Causes.{causeOf};
+ghost use Rattle.limits.specs.Limits.{directionOf, bandOf, withinOf, accelerationsKept, velocitiesKept};
+ghost use Rattle.limits.specs.Limits.{fiveTests, endTests};
 
 // V_EPS and A_EPS
 const EPS: f64 = 1e-12;
@@ -68,28 +71,56 @@ pub fn widened(v_max: f64, max: f64, min: f64) -> Band
     }
 }
 
-pub fn arrived(x: &[f64; NUMBERS]) -> bool
-    ensures { λ r. ⌜ r ≡ arrivedOf (numbersIn (now (x .entry)) .nodes) (numbersIn (now (x .entry)) .goal) ⌝ }
-{
-    near(x[P7] - x[PF], P_PRECISION)
-        & near(x[V7] - x[VF], V_PRECISION)
-        & near(x[A7] - x[AF], A_PRECISION)
-}
-
 fn within(x: f64, band: Band) -> bool
     ensures { λ r. ⌜ r ≡ withinOf x band ⌝ }
 {
     (x >= band.low) & (x <= band.upp)
 }
 
-pub fn kept(x: &[f64; NUMBERS], a_band: Band, v_band: Band) -> bool
-    ensures { λ r. ⌜ r ≡ keptOf (numbersIn (now (x .entry)) .nodes) «a_band» «v_band» ⌝ }
+fn accelerations_kept(x: &[f64; NUMBERS], band: Band) -> bool
+    ensures { λ r. ⌜ r ≡ accelerationsKept (numbersIn (now (x .entry)) .nodes) band ⌝ }
 {
-    within(x[A1], a_band)
-        & within(x[A3], a_band)
-        & within(x[A5], a_band)
-        & within(x[V3], v_band)
-        & within(x[V4], v_band)
-        & within(x[V5], v_band)
-        & within(x[V6], v_band)
+    within(x[A1], band) & within(x[A3], band) & within(x[A5], band)
+}
+
+fn velocities_kept(x: &[f64; NUMBERS], band: Band) -> bool
+    ensures { λ r. ⌜ r ≡ velocitiesKept (numbersIn (now (x .entry)) .nodes) band ⌝ }
+{
+    within(x[V3], band) & within(x[V4], band) & within(x[V5], band) & within(x[V6], band)
+}
+
+// All are looked at before any is told from the others: most moves that get here pass.
+fn first_failing(p: bool, v: bool, a: bool, a_kept: bool, v_kept: bool) -> Cause
+    ensures { λ r. ⌜ r ≡ causeOf (fiveTests p v a «a_kept» «v_kept») ⌝ }
+{
+    if p & v & a & a_kept & v_kept {
+        return Cause::Yes;
+    }
+    if !p {
+        return Cause::EndPosition;
+    }
+    if !v {
+        return Cause::EndVelocity;
+    }
+    if !a {
+        return Cause::EndAcceleration;
+    }
+    if !a_kept {
+        return Cause::AccelerationLimit;
+    }
+    Cause::VelocityLimit
+}
+
+// The cause of the first test at the end that fails.
+pub fn ended(x: &[f64; NUMBERS], a_band: Band, v_band: Band) -> Cause
+    ensures { λ r. ⌜ r ≡ causeOf (endTests (numbersIn (now (x .entry)) .nodes) (numbersIn (now (x .entry)) .goal)
+        «a_band» «v_band») ⌝ }
+{
+    first_failing(
+        near(x[P7] - x[PF], P_PRECISION),
+        near(x[V7] - x[VF], V_PRECISION),
+        near(x[A7] - x[AF], A_PRECISION),
+        accelerations_kept(x, a_band),
+        velocities_kept(x, v_band),
+    )
 }

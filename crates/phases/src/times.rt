@@ -1,10 +1,12 @@
 // The phase times: none below 0, their running sums, and the tests of the label.
+use labels::causes::Cause;
 use labels::tests::Tests;
 use row::NUMBERS;
 use row::T_SUM;
 ghost use mathlib.Core.Path.{_≡_};
 ghost use Rattle.phases.specs.Run.{Step};
-ghost use Rattle.phases.specs.Times.{refusedOf};
+ghost use Rattle.labels.specs.Causes.{causeOf};
+ghost use Rattle.phases.specs.Times.{fourTests, labelTests};
 ghost use Rattle.row.specs.Row.{numbersIn};
 ghost use Rattle.phases.specs.Moved.{summedOf};
 
@@ -34,11 +36,34 @@ pub fn sums(x: &mut [f64; NUMBERS]) -> bool
     true
 }
 
-pub fn refused(tests: Tests, x: &[f64; NUMBERS]) -> bool
-    ensures { λ r. ⌜ r ≡ refusedOf tests (numbersIn (now (x .entry)) .t) (numbersIn (now (x .entry)) .«t_sum») ⌝ }
+// All are looked at before any is told from the others: most times that are not negative pass.
+fn first_short(t3: bool, t1: bool, t5: bool, total: bool) -> Cause
+    ensures { λ r. ⌜ r ≡ causeOf (fourTests t3 t1 t5 total) ⌝ }
 {
-    (tests.t3 & (x[3] < EPSILON))
-        | (tests.t1 & (x[1] < EPSILON))
-        | (tests.t5 & (x[5] < EPSILON))
-        | (x[TOTAL] > T_MAX)
+    if !(t3 | t1 | t5 | total) {
+        return Cause::Yes;
+    }
+    if t3 {
+        return Cause::T3;
+    }
+    if t1 {
+        return Cause::T1;
+    }
+    if t5 {
+        return Cause::T5;
+    }
+    Cause::Total
+}
+
+// The cause of the first test of the label or of the total that fails.
+pub fn refusal(tests: Tests, x: &[f64; NUMBERS]) -> Cause
+    ensures { λ r. ⌜ r ≡ causeOf (labelTests tests (numbersIn (now (x .entry)) .t)
+        (numbersIn (now (x .entry)) .«t_sum»)) ⌝ }
+{
+    first_short(
+        tests.t3 & (x[3] < EPSILON),
+        tests.t1 & (x[1] < EPSILON),
+        tests.t5 & (x[5] < EPSILON),
+        x[TOTAL] > T_MAX,
+    )
 }
