@@ -13,7 +13,7 @@ use Rattle.profile.specs.declared.Checked.{Checked}
 use Rattle.profile.specs.Parts.{profileOf, changed}
 use Rattle.profile.specs.Check.{checkOf}
 
--- all numbers +0, label None, direction UP, signs UDDU
+-- all numbers +0, label None, direction UP, signs UDDU, no call of `check` yet
 abbrev pub defaultOf : Profile
 defaultOf = profileOf (startOf #0 #0 #0 #0 #0 #0) startLabels
 

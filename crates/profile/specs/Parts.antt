@@ -1,6 +1,9 @@
 -- A profile by its numbers and labels: the one place that spells out its fields. Definitions only.
 use mathlib.Core.List.{List}
+use Prim.Native.Nat.{ℕ}
 use lib.Ieee.{Float}
+use Rattle.labels.specs.declared.causes.Cause.{Cause}
+use Rattle.labels.specs.declared.causes.Cause.the-variants.{NoCall}
 use Rattle.labels.specs.declared.Labels.{Labels}
 use Rattle.labels.specs.Labels.{labels}
 use Rattle.row.specs.Row.{Nodes, Goal, Numbers, numbersIn}
@@ -23,6 +26,8 @@ profileOf n l =
       limits = l .limits;
       direction = l .direction;
       «control_signs» = l .«control_signs»;
+      calls = l .calls;
+      cause = l .cause;
     }
 
 abbrev pub nodesOf : Profile → Nodes
@@ -35,7 +40,7 @@ abbrev pub numbersOf : Profile → Numbers
 numbersOf q = record { t = q .t; «t_sum» = q .«t_sum»; j = q .j; nodes = nodesOf q; goal = goalOf q }
 
 abbrev pub labelsOf : Profile → Labels
-labelsOf q = labels (q .limits) (q .direction) (q .«control_signs»)
+labelsOf q = labels (q .limits) (q .direction) (q .«control_signs») (q .calls) (q .cause)
 
 -- a profile with its numbers changed
 abbrev pub changed : (Numbers → Numbers) → Profile → Profile
@@ -47,3 +52,14 @@ profileIn x l = profileOf (numbersIn x) l
 
 abbrev pub checkedIn : List Float → Verdict → Checked
 checkedIn x r = record { ok = r .ok; profile = profileIn x (r .labels) }
+
+-- A profile with another count and cause; and a verdict with the Rust's record alone, which has neither: demand 2 is
+-- about these.
+abbrev pub noted : ℕ → Cause → Profile → Profile
+noted n c q = profileOf (numbersOf q) (labels (q .limits) (q .direction) (q .«control_signs») n c)
+
+abbrev pub recordOf : Profile → Profile
+recordOf = noted 0 NoCall
+
+abbrev pub rustOf : Checked → Checked
+rustOf c = record { ok = c .ok; profile = recordOf (c .profile) }

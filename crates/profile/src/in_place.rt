@@ -1,26 +1,52 @@
 // `check` in place: over a profile's numbers in one lent row.
 use jerks::jerks;
 use labels::ControlSigns;
+use labels::Direction;
 use labels::Labels;
 use labels::ReachedLimits;
+use labels::causes::Cause;
+use labels::causes::counted;
+use labels::causes::is_yes;
 use labels::tests::tests_under;
-use limits::arrived;
 use limits::direction;
-use limits::kept;
+use limits::ended;
 use limits::widened;
 use phases::nodes::nodes;
-use phases::times::refused;
+use phases::times::refusal;
 use phases::times::sums;
 use row::NUMBERS;
 use row::set_jerks;
 use row::times;
 ghost use mathlib.Core.Path.{_≡_};
+ghost use mathlib.Core.Bool.{false};
+ghost use Rattle.labels.specs.Labels.{labels};
 ghost use Rattle.profile.specs.Parts.{profileIn, checkedIn};
 ghost use Rattle.profile.specs.Check.{checkOf};
 
 pub struct Verdict {
     pub ok: bool,
     pub labels: Labels,
+}
+
+// A no on the way: limits and signs are those of the call before.
+fn no(was: Labels, direction: Direction, calls: u8, cause: Cause) -> Verdict
+    ensures { λ r. ⌜ r ≡ record {
+      ok = false;
+      labels = labels (was .limits) direction (was .«control_signs») calls cause;
+    } ⌝ }
+{
+    let limits = was.limits;
+    let control_signs = was.control_signs;
+    Verdict {
+        ok: false,
+        labels: Labels {
+            limits,
+            direction,
+            control_signs,
+            calls,
+            cause,
+        },
+    }
 }
 
 pub fn check(
@@ -39,35 +65,32 @@ pub fn check(
         ≡ checkOf «control_signs» limits «set_limits» jf «v_max» «v_min» «a_max» «a_min»
         (profileIn (now (x .entry)) labels) ⌝ }
 {
-    let was_limits = labels.limits;
-    let was_signs = labels.control_signs;
+    let calls = counted(labels.calls);
+    let was = labels.direction;
     if !sums(x) {
-        return Verdict { ok: false, labels };
+        return no(labels, was, calls, Cause::NegativeTime);
     }
     let made = tests_under(limits);
-    if refused(made, x) {
-        return Verdict { ok: false, labels };
+    let refused = refusal(made, x);
+    if !is_yes(refused) {
+        return no(labels, was, calls, refused);
     }
     set_jerks(x, jerks(control_signs, times(x), jf));
     let way = direction(v_max);
     let v_band = widened(v_max, v_max, v_min);
     if !nodes(x, made, set_limits, a_max, a_min, v_band) {
-        return Verdict {
-            ok: false,
-            labels: Labels {
-                limits: was_limits,
-                direction: way,
-                control_signs: was_signs,
-            },
-        };
+        return no(labels, way, calls, Cause::VelocityAtZero);
     }
     let a_band = widened(v_max, a_max, a_min);
+    let cause = ended(x, a_band, v_band);
     Verdict {
-        ok: arrived(x) & kept(x, a_band, v_band),
+        ok: is_yes(cause),
         labels: Labels {
             limits,
             direction: way,
             control_signs,
+            calls,
+            cause,
         },
     }
 }

@@ -8,6 +8,7 @@ use labels::ControlSigns;
 use labels::Direction;
 use labels::Labels;
 use labels::ReachedLimits;
+use labels::causes::Cause;
 use labels::start_labels;
 use parts::eight;
 use parts::seven;
@@ -48,6 +49,8 @@ pub struct Profile {
     pub limits: ReachedLimits,
     pub direction: Direction,
     pub control_signs: ControlSigns,
+    pub calls: u8,
+    pub cause: Cause,
 }
 
 // The verdict of a check, with the record as it leaves it.
@@ -64,6 +67,7 @@ impl Profile {
         let limits = labels.limits;
         let direction = labels.direction;
         let control_signs = labels.control_signs;
+        let cause = labels.cause;
         Profile {
             t: seven(&x, 0),
             t_sum: seven(&x, T_SUM),
@@ -77,6 +81,8 @@ impl Profile {
             limits,
             direction,
             control_signs,
+            calls: labels.calls,
+            cause,
         }
     }
 
@@ -103,10 +109,13 @@ impl Profile {
         let limits = self.limits;
         let direction = self.direction;
         let control_signs = self.control_signs;
+        let cause = self.cause;
         Labels {
             limits,
             direction,
             control_signs,
+            calls: self.calls,
+            cause,
         }
     }
 
