@@ -11,8 +11,8 @@ use Rattle.roots.specs.Quartic.{needOf, factorsOf, quadraticOf, withoutCdOf, wi
 use Rattle.labels.specs.Tests.{testsOf}
 use Rattle.jerks.specs.Jerks.{jerksOf}
 use Rattle.phases.specs.Run.{run}
-use Rattle.phases.specs.Times.{sumStep, sumsOf, refusedOf}
-use Rattle.limits.specs.Limits.{bandOf, arrivedOf, keptOf}
+use Rattle.phases.specs.Times.{sumStep, sumsOf, labelTests}
+use Rattle.limits.specs.Limits.{bandOf, accelerationsKept, velocitiesKept, endTests}
 use Rattle.phases.specs.Phase.{replacedOf, zeroInsideOf, nodeOf, phaseOf}
 use Rattle.profile.specs.Check.{checkOf}
 use Rattle.profile.specs.Boundary.{boundaryOf}
@@ -39,8 +39,8 @@ pub marked-moves : right table ≡ true
 unfolding ofBits toBits lt le eq neg add sub mul div absOf integrateOf sqrtOf
     holds insertOf insertAllOf intoOf sortedOf
     needOf factorsOf quadraticOf withoutCdOf withCbrtOf resolvedOf offeredOf rootsOf
-    testsOf jerksOf run sumStep sumsOf refusedOf bandOf replacedOf zeroInsideOf nodeOf phaseOf
-    arrivedOf keptOf checkOf boundaryOf newOf
+    testsOf jerksOf run sumStep sumsOf labelTests bandOf replacedOf zeroInsideOf nodeOf phaseOf
+    accelerationsKept velocitiesKept endTests checkOf boundaryOf newOf
     acc0Acc1VelUdduApplies acc0Acc1VelUdduRadicand acc0Acc1VelUdduH1 acc0Acc1VelUdduT1 acc0Acc1VelUdduTimes
     acc0Acc1VelUddu acc0Acc1VelUdudApplies acc0Acc1VelUdudT1 acc0Acc1VelUdudT3 acc0Acc1VelUdudTimes acc0Acc1VelUdud
     acc0Acc1RestApplies acc0Acc1RestH1 acc0Acc1RestH2 acc0Acc1RestJf acc0Acc1RestT1 acc0Acc1RestTimes acc0Acc1Rest

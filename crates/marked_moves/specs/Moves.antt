@@ -13,7 +13,7 @@ use Rattle.roots.specs.declared.RootAnswer.the-variants.{CubeRoot}
 use Rattle.positive_set.specs.Set.{sortedOf}
 use Rattle.roots.specs.Quartic.{rootsOf}
 use Rattle.hex.specs.Hex.{bytesOf, hexOf}
-use Rattle.line_kinds.specs.Kinds.{replyMost}
+use Rattle.line_kinds.specs.Kinds.{recordPlaces, replyMost}
 use Rattle.line_frame.specs.Frame.{byteAt, numberAt, numbersAt}
 use Rattle.line_reply.specs.Reply.{numbersBytes}
 use Rattle.line_answers.specs.FrameAnswer.{Answer}
@@ -161,7 +161,7 @@ table =
     ∷ all-same (rootsOf (neg #3) #2 #0 #0 (CubeRoot #0)) (#0 ∷ #1 ∷ #2 ∷ [])
     ∷ all-same (sortedOf (rootsOf (neg #3) #2 #0 #0 (CubeRoot #0))) (#0 ∷ #1 ∷ #2 ∷ [])
     -- whole case: 00000700 and 288 zeros print 01070100 and 720 zeros
-    ∷ all-equal (answerOf (48 ∷ 48 ∷ 48 ∷ 48 ∷ 48 ∷ 55 ∷ 48 ∷ 48 ∷ replicate 288 48) (replicate replyMost 0) .places)
+    ∷ all-equal (answerOf (48 ∷ 48 ∷ 48 ∷ 48 ∷ 48 ∷ 55 ∷ 48 ∷ 48 ∷ replicate 288 48) (replicate recordPlaces 0) .places)
     (48 ∷ 49 ∷ 48 ∷ 55 ∷ 48 ∷ 49 ∷ 48 ∷ 48 ∷ replicate 720 48)
     -- an empty line gets number 1
     ∷ eqb (answerOf [] (replicate replyMost 0) .number) 1

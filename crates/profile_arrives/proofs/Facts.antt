@@ -17,7 +17,8 @@ use Rattle.jerks.specs.declared.Sign.{Sign}
 use Rattle.jerks.specs.declared.Sign.the-variants.{Plus, Zero, Minus}
 use Rattle.profile.specs.declared.Profile.{Profile}
 use Rattle.jerks.specs.Jerks.{patternOf, signedOf, jerkOf, jerksOf}
-use Rattle.limits.specs.Limits.{bandOf, arrivedOf, withinOf, keptOf}
+use Rattle.limits.specs.Limits.{bandOf, withinOf, accelerationsKept, velocitiesKept, endTests}
+use Rattle.profile.specs.Parts.{nodesOf}
 use Rattle.rounding.specs.Exact.{D, nought, signed, Size, Below, Same}
 use Rattle.rounding.specs.Value.{mag, sign, val, Finite, Number}
 use Rattle.rounding.specs.Motion.{lasts, elapsed}
@@ -113,13 +114,22 @@ module _ {signs : ControlSigns} {limits : ReachedLimits} {jf v-max v-min a-max a
   -- ---- the three tests at the end
   ends : (lt (absOf (node q' 7 .p ⊖ q' .pf)) #1e-8 ≡ true) × (lt (absOf (node q' 7 .v ⊖ q' .vf)) #1e-8 ≡ true)
       × (lt (absOf (node q' 7 .a ⊖ q' .af)) #1e-10 ≡ true)
-  unfolding arrivedOf
+  unfolding endTests
   ends =
-      let p = lt (absOf (node q' 7 .p ⊖ q' .pf)) #1e-8 in
-      let v = lt (absOf (node q' 7 .v ⊖ q' .vf)) #1e-8 in
-      let w = both (p && v) (lt (absOf (node q' 7 .a ⊖ q' .af)) #1e-10) (y .arrived) in
-      let u = both p v (w .0) in
-      (u .0, u .1, w .1)
+      let p = both (lt (absOf (node q' 7 .p ⊖ q' .pf)) #1e-8) _ (y .at-end) in
+      let v = both (lt (absOf (node q' 7 .v ⊖ q' .vf)) #1e-8) _ (p .1) in
+      let a = both (lt (absOf (node q' 7 .a ⊖ q' .af)) #1e-10) _ (v .1) in
+      (p .0, v .0, a .0)
+
+  both-kept : (accelerationsKept (nodesOf q') (bandOf v-max a-max a-min) ≡ true)
+      × (velocitiesKept (nodesOf q') (bandOf v-max v-max v-min) ≡ true)
+  unfolding endTests
+  both-kept =
+      let p = both (lt (absOf (node q' 7 .p ⊖ q' .pf)) #1e-8) _ (y .at-end) in
+      let v = both (lt (absOf (node q' 7 .v ⊖ q' .vf)) #1e-8) _ (p .1) in
+      let a = both (lt (absOf (node q' 7 .a ⊖ q' .af)) #1e-10) _ (v .1) in
+      let k = both (accelerationsKept (nodesOf q') (bandOf v-max a-max a-min)) _ (a .1) in
+      (k .0, both (velocitiesKept (nodesOf q') (bandOf v-max v-max v-min)) true (k .1) .0)
 
   pub end-p : Close (node q' 7 .p) (q' .pf) #1e-8
   end-p = close (node q' 7 .p) (q' .pf) #1e-8 number-1e-8 (ends .0)
@@ -162,7 +172,7 @@ module _ {signs : ControlSigns} {limits : ReachedLimits} {jf v-max v-min a-max a
 
   -- ---- the seven tests of the limits
   pub limits-kept : Kept v-max v-min a-max a-min q'
-  unfolding keptOf bandOf
+  unfolding accelerationsKept velocitiesKept bandOf
   limits-kept =
       let w1 = withinOf (node q' 1 .a) (bandOf v-max a-max a-min) in
       let w2 = withinOf (node q' 3 .a) (bandOf v-max a-max a-min) in
@@ -171,17 +181,16 @@ module _ {signs : ControlSigns} {limits : ReachedLimits} {jf v-max v-min a-max a
       let w5 = withinOf (node q' 4 .v) (bandOf v-max v-max v-min) in
       let w6 = withinOf (node q' 5 .v) (bandOf v-max v-max v-min) in
       let w7 = withinOf (node q' 6 .v) (bandOf v-max v-max v-min) in
-      let h7 = both (w1 && w2 && w3 && w4 && w5 && w6) w7 (y .kept) in
-      let h6 = both (w1 && w2 && w3 && w4 && w5) w6 (h7 .0) in
-      let h5 = both (w1 && w2 && w3 && w4) w5 (h6 .0) in
-      let h4 = both (w1 && w2 && w3) w4 (h5 .0) in
-      let h3 = both (w1 && w2) w3 (h4 .0) in
+      let h7 = both (w4 && w5 && w6) w7 (both-kept .1) in
+      let h6 = both (w4 && w5) w6 (h7 .0) in
+      let h5 = both w4 w5 (h6 .0) in
+      let h3 = both (w1 && w2) w3 (both-kept .0) in
       let h2 = both w1 w2 (h3 .0) in
       record {
         a1 = inside (lower v-max a-max a-min) (node q' 1 .a) (upper v-max a-max a-min) (h2 .0);
         a3 = inside (lower v-max a-max a-min) (node q' 3 .a) (upper v-max a-max a-min) (h2 .1);
         a5 = inside (lower v-max a-max a-min) (node q' 5 .a) (upper v-max a-max a-min) (h3 .1);
-        v3 = inside (lower v-max v-max v-min) (node q' 3 .v) (upper v-max v-max v-min) (h4 .1);
+        v3 = inside (lower v-max v-max v-min) (node q' 3 .v) (upper v-max v-max v-min) (h5 .0);
         v4 = inside (lower v-max v-max v-min) (node q' 4 .v) (upper v-max v-max v-min) (h5 .1);
         v5 = inside (lower v-max v-max v-min) (node q' 5 .v) (upper v-max v-max v-min) (h6 .1);
         v6 = inside (lower v-max v-max v-min) (node q' 6 .v) (upper v-max v-max v-min) (h7 .1);

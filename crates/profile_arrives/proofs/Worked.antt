@@ -11,17 +11,16 @@ use lib.Ieee.{Float, binary64, ofBits, neg, add, sub, mul, div, lt, le, fits}
 use Rattle.float.specs.Ops.{#0, #1, #2, #8}
 use Rattle.float.specs.Helpers.{absOf}
 use Rattle.util.specs.Integrate.{integrateOf}
-use Rattle.labels.specs.declared.ReachedLimits.the-variants.{Acc0Acc1Vel, None}
+use Rattle.labels.specs.declared.ReachedLimits.the-variants.{Acc0Acc1Vel}
 use Rattle.labels.specs.declared.ControlSigns.the-variants.{UDDU}
-use Rattle.labels.specs.declared.Direction.the-variants.{UP}
 use Rattle.profile.specs.declared.Profile.{Profile}
 use Rattle.labels.specs.Tests.{testsOf}
 use Rattle.jerks.specs.Jerks.{jerksOf}
 use Rattle.phases.specs.Run.{run}
-use Rattle.phases.specs.Times.{sumStep, sumsOf, refusedOf}
-use Rattle.limits.specs.Limits.{bandOf, arrivedOf, keptOf}
+use Rattle.phases.specs.Times.{sumStep, sumsOf, labelTests}
+use Rattle.limits.specs.Limits.{bandOf, accelerationsKept, velocitiesKept, endTests}
 use Rattle.phases.specs.Phase.{replacedOf, zeroInsideOf, nodeOf, phaseOf}
-use Rattle.labels.specs.Labels.{labels}
+use Rattle.labels.specs.Labels.{startLabels}
 use Rattle.row.specs.Row.{withTimes, startOf}
 use Rattle.profile.specs.Parts.{profileOf}
 use Rattle.profile.specs.Check.{checkOf}
@@ -37,8 +36,7 @@ abbrev seven : List Float
 seven = #1 ∷ #1 ∷ #1 ∷ #1 ∷ #1 ∷ #1 ∷ #1 ∷ []
 
 abbrev asked : Profile
-asked =
-    profileOf (withTimes seven (startOf #0 #0 #0 #8 #0 #0)) (labels None UP UDDU)
+asked = profileOf (withTimes seven (startOf #0 #0 #0 #8 #0 #0)) startLabels
 
 abbrev left : Profile
 left = reply UDDU Acc0Acc1Vel #1 #2 (neg #2) #1 (neg #1) asked
@@ -63,8 +61,9 @@ held =
 -- all of it computes
 met : (checkOf UDDU Acc0Acc1Vel false #1 #2 (neg #2) #1 (neg #1) asked .ok ≡ true) × Within left
     × Residual 0 Acc0Acc1Vel left × Number #1 × Number #2 × Number (neg #1) × Number (neg #2)
-unfolding checkOf sumsOf sumStep run refusedOf testsOf jerksOf phaseOf nodeOf replacedOf zeroInsideOf integrateOf bandOf
-    arrivedOf keptOf absOf ofBits neg add sub mul div lt le fits unit mag sign val motion lasts
+unfolding checkOf sumsOf sumStep run labelTests testsOf jerksOf phaseOf nodeOf replacedOf zeroInsideOf integrateOf
+    bandOf accelerationsKept velocitiesKept endTests absOf ofBits neg add sub mul div lt le fits
+    unit mag sign val motion lasts
 met = (
   refl,
   within (sized tt tt) (sized tt tt) (sized tt tt) (lit≤ tt) (sized tt tt) (sized tt tt) (sized tt tt) (sized tt tt)

@@ -2,7 +2,7 @@
 -- The first after a no as after a yes; the second part by part, of the profile q that it was handed and the profile q'
 -- that it left.
 use mathlib.Core.Path.{_≡_, refl, sym, subst}
-use mathlib.Core.Bool.{Bool, true, false, cond, not, _&&_, _||_, true≢false}
+use mathlib.Core.Bool.{Bool, true, false, cond, _&&_, true≢false}
 use mathlib.Core.List.{List}
 use Prim.Native.Nat.{ℕ, zero, suc, _+_, _<_, zero-le}
 use native.Mathlib.Nat.{le-refl, le-of-suc-le-suc}
@@ -16,17 +16,17 @@ use Rattle.labels.specs.declared.ControlSigns.{ControlSigns}
 use Rattle.labels.specs.declared.tests.Tests.{Tests}
 use Rattle.limits.specs.declared.Band.{Band}
 use Rattle.profile.specs.declared.Profile.{Profile}
-use Rattle.profile.specs.declared.Checked.{Checked}
 use Rattle.labels.specs.Tests.{testsOf}
 use Rattle.jerks.specs.Jerks.{jerksOf}
-use Rattle.row.specs.Row.{Nodes, withSums, withJerks, withNodes}
+use Rattle.row.specs.Row.{Nodes}
 use Rattle.phases.specs.Run.{Step, run, yes!, no! }
-use Rattle.phases.specs.Times.{sumStep, sumsOf, refusedOf}
-use Rattle.limits.specs.Limits.{directionOf, bandOf, arrivedOf, keptOf}
+use Rattle.phases.specs.Times.{sumStep, sumsOf, labelTests}
+use Rattle.limits.specs.Limits.{bandOf, endTests}
 use Rattle.phases.specs.Phase.{replacedOf, nodeOf, phaseOf}
-use Rattle.labels.specs.Labels.{labels}
-use Rattle.profile.specs.Parts.{profileOf, nodesOf, goalOf, numbersOf, labelsOf}
+use Rattle.labels.specs.Causes.{noneFails}
+use Rattle.profile.specs.Parts.{nodesOf, goalOf}
 use Rattle.profile.specs.Check.{checkOf}
+use Rattle.profile.proofs.Left.{leaves, times-pass, others-pass, yes-leaves}
 use Rattle.rounding.specs.Step.{Node, stepOf}
 use Rattle.profile_arrives.specs.Reply.{time, jerk, node, Held}
 use Rattle.profile_arrives.proofs.Steps.{at, stored, Eight, Begins, each-yes, begins, follows}
@@ -54,34 +54,14 @@ pub record Yes (signs : ControlSigns) (limits : ReachedLimits) (jf v-max v-min a
   pub step : (i : ℕ) → i < 7 → node q' (suc i) ≡ stepped (testsOf limits) i (time q' i) (jerk q' i) (node q' i)
   -- what is tested
   pub not-negative : (i : ℕ) → i < 7 → lt (time q' i) #0 ≡ false
-  pub not-refused : refusedOf (testsOf limits) (q' .t) (q' .«t_sum») ≡ false
-  pub arrived : arrivedOf (nodesOf q') (goalOf q') ≡ true
-  pub kept : keptOf (nodesOf q') (bandOf v-max a-max a-min) (bandOf v-max v-max v-min) ≡ true
+  pub not-refused : noneFails (labelTests (testsOf limits) (q' .t) (q' .«t_sum»)) ≡ true
+  pub at-end : noneFails (endTests (nodesOf q') (goalOf q') (bandOf v-max a-max a-min) (bandOf v-max v-max v-min))
+      ≡ true
 
--- ---- the two tests before the end said yes
-abbrev ways : Bool → Bool → Bool → Profile → Profile → Profile → Checked
-ways b c d x y z =
-    cond b (record { ok = false; profile = x })
-    (cond c (record { ok = d; profile = y }) (record { ok = false; profile = z }))
-
-last-way : (b c d : Bool) (x y z : Profile) → ways b c d x y z .ok ≡ true
-    → (b ≡ false) × (c ≡ true) × (d ≡ true) × (ways b c d x y z .profile ≡ y)
-last-way true c d x y z h = absurd (true≢false (sym h))
-last-way false true d x y z h = (refl, refl, h, refl)
-last-way false false d x y z h = absurd (true≢false (sym h))
-
-any-way : (P : Profile → Type 0) (b c d : Bool) (x y z : Profile) → P x → P y → P z → P (ways b c d x y z .profile)
-any-way P true c d x y z h k l = h
-any-way P false true d x y z h k l = k
-any-way P false false d x y z h k l = l
-
+-- ---- two tests that pass
 pub both : (a b : Bool) → a && b ≡ true → (a ≡ true) × (b ≡ true)
 both true b h = (refl, h)
 both false b h = absurd (true≢false (sym h))
-
-neither : (a b : Bool) → not a || b ≡ false → (a ≡ true) × (b ≡ false)
-neither true b h = (refl, h)
-neither false b h = absurd (true≢false h)
 
 -- ---- the times
 kept-on : {X : Type 0} (b : Bool) (x : X) (y : Step X) → cond b (no! x) y .ok ≡ true → (b ≡ false) × (y .ok ≡ true)
@@ -133,23 +113,10 @@ module _ (signs : ControlSigns) (limits : ReachedLimits) (jf v-max v-min a-max a
     (h : Held q) where
   pub check-carries : (set-limits : Bool)
       → Carried q (checkOf signs limits set-limits jf v-max v-min a-max a-min q .profile)
-  unfolding checkOf
   check-carries set-limits =
-      let sums = sumsOf (q .t) (q .«t_sum») in
-      let j = jerksOf signs (q .t) jf in
-      let nodes = run (phaseOf (testsOf limits) set-limits a-max a-min (bandOf v-max v-max v-min) (q .t) j) 7 0
-      (nodesOf q) in
-      let summed = withSums (sums .left) (numbersOf q) in
-      let moved = withNodes (nodes .left) (withJerks j summed) in
-      let begun = phases-begin (testsOf limits) set-limits a-max a-min (bandOf v-max v-max v-min) (q .t) j (nodesOf q)
-      (eight-of q h) in
-      any-way (λ (z : Profile). Carried q z) (not (sums .ok) || refusedOf (testsOf limits) (q .t) (sums .left))
-      (nodes .ok)
-      (arrivedOf (nodes .left) (goalOf q) && keptOf (nodes .left) (bandOf v-max a-max a-min)
-      (bandOf v-max v-max v-min))
-      (profileOf summed (labelsOf q))
-      (profileOf moved (labels limits (directionOf v-max) signs))
-      (profileOf moved (labels (q .limits) (directionOf v-max) (q .«control_signs»)))
+      let begun = phases-begin (testsOf limits) set-limits a-max a-min (bandOf v-max v-max v-min) (q .t)
+      (jerksOf signs (q .t) jf) (nodesOf q) (eight-of q h) in
+      leaves signs limits set-limits jf v-max v-min a-max a-min q (λ (z : Profile). Carried q z)
       (record {
         t-is = refl;
         pf-is = refl;
@@ -163,36 +130,22 @@ module _ (signs : ControlSigns) (limits : ReachedLimits) (jf v-max v-min a-max a
   pub check-yes : checkOf signs limits false jf v-max v-min a-max a-min q .ok ≡ true
       → Yes signs limits jf v-max v-min a-max a-min q
       (checkOf signs limits false jf v-max v-min a-max a-min q .profile)
-  unfolding checkOf
   check-yes said =
-      let sums = sumsOf (q .t) (q .«t_sum») in
-      let j = jerksOf signs (q .t) jf in
-      let nodes = run (phaseOf (testsOf limits) false a-max a-min (bandOf v-max v-max v-min) (q .t) j) 7 0
-      (nodesOf q) in
-      let summed = withSums (sums .left) (numbersOf q) in
-      let moved = withNodes (nodes .left) (withJerks j summed) in
-      let w = last-way (not (sums .ok) || refusedOf (testsOf limits) (q .t) (sums .left)) (nodes .ok)
-      (arrivedOf (nodes .left) (goalOf q) && keptOf (nodes .left) (bandOf v-max a-max a-min)
-      (bandOf v-max v-max v-min))
-      (profileOf summed (labelsOf q))
-      (profileOf moved (labels limits (directionOf v-max) signs))
-      (profileOf moved (labels (q .limits) (directionOf v-max) (q .«control_signs»))) said in
-      let u = neither (sums .ok) (refusedOf (testsOf limits) (q .t) (sums .left)) (w .0) in
-      let e = both (arrivedOf (nodes .left) (goalOf q))
-      (keptOf (nodes .left) (bandOf v-max a-max a-min) (bandOf v-max v-max v-min)) (w .2) in
-      subst (λ (z : Profile). Yes signs limits jf v-max v-min a-max a-min q z) (sym (w .3))
+      let is = yes-leaves signs limits false jf v-max v-min a-max a-min q said in
+      let first = times-pass signs limits false jf v-max v-min a-max a-min q said in
+      let last = others-pass signs limits false jf v-max v-min a-max a-min q said in
+      subst (λ (z : Profile). Yes signs limits jf v-max v-min a-max a-min q z) (sym is)
       (record {
-        carried = subst (λ (z : Profile). Carried q z) (w .3) (check-carries false);
+        carried = subst (λ (z : Profile). Carried q z) is (check-carries false);
         j-is = refl;
         limits-is = refl;
         signs-is = refl;
         step =
-            phases-step (testsOf limits) a-max a-min (bandOf v-max v-max v-min) (q .t) j (nodesOf q) (eight-of q h)
-            (w .1);
-        not-negative = times-yes (q .t) (q .«t_sum») (u .0);
-        not-refused = u .1;
-        arrived = e .0;
-        kept = e .1;
+            phases-step (testsOf limits) a-max a-min (bandOf v-max v-max v-min) (q .t) (jerksOf signs (q .t) jf)
+            (nodesOf q) (eight-of q h) (last .0);
+        not-negative = times-yes (q .t) (q .«t_sum») (first .0);
+        not-refused = first .1;
+        at-end = last .1;
       })
 
 -- what is carried over holds f64s still, and eight of them

@@ -2,7 +2,7 @@
 -- recorded acceleration passes through 0 keeps its limits, wherever `check` tests it. It is stated of the record that
 -- is left, so that it can be used beside `Yes` of crates/profile_arrives. Assumes nothing.
 use mathlib.Core.Path.{_≡_, refl, sym, ap, _∙_, subst}
-use mathlib.Core.Bool.{Bool, true, false, cond, not, _&&_, _||_, true≢false}
+use mathlib.Core.Bool.{Bool, true, false}
 use mathlib.Core.Logic.{inl, inr}
 use mathlib.Core.List.{List}
 use Prim.Native.Nat.{ℕ, zero, suc, _+_, _≤_, _<_, zero-le}
@@ -15,17 +15,15 @@ use Rattle.labels.specs.declared.ControlSigns.{ControlSigns}
 use Rattle.labels.specs.declared.tests.Tests.{Tests}
 use Rattle.limits.specs.declared.Band.{Band}
 use Rattle.profile.specs.declared.Profile.{Profile}
-use Rattle.profile.specs.declared.Checked.{Checked}
 use Rattle.labels.specs.Tests.{testsOf}
 use Rattle.jerks.specs.Jerks.{jerksOf}
-use Rattle.row.specs.Row.{Nodes, withSums, withJerks, withNodes}
+use Rattle.row.specs.Row.{Nodes}
 use Rattle.phases.specs.Run.{Step, run}
-use Rattle.phases.specs.Times.{sumsOf, refusedOf}
-use Rattle.limits.specs.Limits.{directionOf, bandOf, arrivedOf, keptOf}
+use Rattle.limits.specs.Limits.{bandOf}
 use Rattle.phases.specs.Phase.{replacedOf, zeroInsideOf, nodeOf, phaseOf}
-use Rattle.labels.specs.Labels.{labels}
-use Rattle.profile.specs.Parts.{profileOf, nodesOf, goalOf, numbersOf, labelsOf}
+use Rattle.profile.specs.Parts.{nodesOf}
 use Rattle.profile.specs.Check.{checkOf}
+use Rattle.profile.proofs.Left.{ended, others-pass, yes-leaves}
 use Rattle.rounding.specs.Step.{Node, stepOf}
 use Rattle.profile_arrives.specs.Reply.{jerk, node, Held}
 use Rattle.profile_arrives.proofs.Steps.{never, later, first, rest, at, stored, stays}
@@ -69,17 +67,6 @@ module _ (m : Tests) (a-max a-min : Float) (b : Band) (t j : List Float) where
       tested (phaseOf m false a-max a-min b t j) next inside (λ i n. refl) (λ i n. refl) 7 0 n h i zero-le l
 
 -- ---- a yes of `check`
-abbrev ways : Bool → Bool → Bool → Profile → Profile → Profile → Checked
-ways b c d x y z =
-    cond b (record { ok = false; profile = x })
-    (cond c (record { ok = d; profile = y }) (record { ok = false; profile = z }))
-
-last-way : (b c d : Bool) (x y z : Profile) → ways b c d x y z .ok ≡ true
-    → (c ≡ true) × (ways b c d x y z .profile ≡ y)
-last-way true c d x y z h = absurd (true≢false (sym h))
-last-way false true d x y z h = (refl, refl)
-last-way false false d x y z h = absurd (true≢false (sym h))
-
 -- phase i of the profile q passed the test, or was not put to it
 abbrev pub ZeroInside : Float → Float → Profile → ℕ → Type 0
 ZeroInside v-max v-min q i =
@@ -89,26 +76,18 @@ module _ (signs : ControlSigns) (limits : ReachedLimits) (jf v-max v-min a-max a
     (h : Held q) where
   pub check-zero-inside : checkOf signs limits false jf v-max v-min a-max a-min q .ok ≡ true → (i : ℕ) → i < 7
       → ZeroInside v-max v-min (checkOf signs limits false jf v-max v-min a-max a-min q .profile) i
-  unfolding checkOf replacedOf
+  unfolding replacedOf
   check-zero-inside said i l =
-      let sums = sumsOf (q .t) (q .«t_sum») in
-      let j = jerksOf signs (q .t) jf in
       let b = bandOf v-max v-max v-min in
-      let nodes = run (phaseOf (testsOf limits) false a-max a-min b (q .t) j) 7 0 (nodesOf q) in
-      let summed = withSums (sums .left) (numbersOf q) in
-      let moved = withNodes (nodes .left) (withJerks j summed) in
-      let y = profileOf moved (labels limits (directionOf v-max) signs) in
-      let w = last-way (not (sums .ok) || refusedOf (testsOf limits) (q .t) (sums .left)) (nodes .ok)
-      (arrivedOf (nodes .left) (goalOf q) && keptOf (nodes .left) (bandOf v-max a-max a-min) b)
-      (profileOf summed (labelsOf q)) y
-      (profileOf moved (labels (q .limits) (directionOf v-max) (q .«control_signs»)))
-      said in
-      let made = subst (λ (z : Profile). Yes signs limits jf v-max v-min a-max a-min q z) (w .1)
+      let y = ended signs limits false jf v-max v-min a-max a-min q in
+      let is = yes-leaves signs limits false jf v-max v-min a-max a-min q said in
+      let made = subst (λ (z : Profile). Yes signs limits jf v-max v-min a-max a-min q z) is
       (check-yes signs limits jf v-max v-min a-max a-min q h said) in
-      subst (λ (z : Profile). ZeroInside v-max v-min z i) (sym (w .1))
+      subst (λ (z : Profile). ZeroInside v-max v-min z i) (sym is)
       (ap (λ (x : Float). zeroInsideOf i (node y i .v) (node y i .a) x (jerk y i) b)
       (ap (λ (n : Node). n .a) (made .step i l))
-      ∙ phases-tested (testsOf limits) a-max a-min b (q .t) j (nodesOf q) (w .0) i l)
+      ∙ phases-tested (testsOf limits) a-max a-min b (q .t) (jerksOf signs (q .t) jf) (nodesOf q)
+      (others-pass signs limits false jf v-max v-min a-max a-min q said .0) i l)
 
 -- and so of every attempt that says yes
 pub made-zero-inside : {m : Move} {q : Profile} → Made m q → (i : ℕ) → i < 7
