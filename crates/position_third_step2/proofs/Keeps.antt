@@ -1,9 +1,11 @@
--- `check` and every shape leave seven times, sums and jerks, and eight accelerations, velocities and positions, where
--- there were as many: after a no as after a yes. Assumes nothing.
-use mathlib.Core.Path.{_≡_, refl, _∙_}
-use mathlib.Core.Bool.{Bool, true, false, cond, not, _||_}
+-- `check` and every shape leave seven times, sums and jerks, eight accelerations, velocities and positions, and a count
+-- of one byte, where there were as many: after a no as after a yes. Assumes nothing.
+use mathlib.Core.Path.{_≡_, refl, sym, _∙_, subst}
+use mathlib.Core.Bool.{Bool, true, false, cond}
 use mathlib.Core.List.{List, [], _∷_}
-use Prim.Native.Nat.{ℕ, zero, suc, _+_}
+use Prim.Native.Nat.{ℕ, zero, suc, _+_, _<_}
+use native.Mathlib.Omega.{arith}
+use lib.Dec.{T, ltb, ltb→lt, lit≤}
 use lib.ListN.{length, getD, set, length-set}
 use lib.Ieee.{Float, nan, lt}
 use Rattle.float.specs.Ops.{_⊕_, #0}
@@ -18,11 +20,13 @@ use Rattle.labels.specs.declared.Labels.{Labels}
 use Rattle.phases.specs.Run.{Step, run, yes!, no! }
 use Rattle.labels.specs.Tests.{testsOf}
 use Rattle.jerks.specs.Jerks.{jerksOf}
-use Rattle.phases.specs.Times.{sumStep, sumsOf, refusedOf}
+use Rattle.labels.specs.Causes.{countedOf}
+use Rattle.phases.specs.Times.{sumStep, sumsOf}
 use Rattle.limits.specs.Limits.{bandOf}
 use Rattle.phases.specs.Phase.{nodeOf, phaseOf}
 use Rattle.profile.specs.Parts.{profileOf, nodesOf}
 use Rattle.profile.specs.Check.{checkOf}
+use Rattle.profile.proofs.Left.{leaves}
 use Rattle.roots.specs.declared.RootAnswer.{RootAnswer}
 use Rattle.step2_solver.specs.declared.PositionThirdOrderStep2.{PositionThirdOrderStep2}
 use Rattle.step2_solver.specs.declared.Limits.{Limits}
@@ -96,6 +100,7 @@ pub record Lengths (q : Profile) : Type 0 where
   pub eight-a : length (q .a) ≡ 8
   pub eight-v : length (q .v) ≡ 8
   pub eight-p : length (q .p) ≡ 8
+  pub byte-calls : q .calls < 256
 
 pub record Leaves (c : Checked) : Type 0 where
   pub lengths : Lengths (c .profile)
@@ -107,9 +112,25 @@ nodes : {q : Profile} → Lengths q → Eight (nodesOf q)
 nodes h = record { of-a = h .eight-a; of-v = h .eight-v; of-p = h .eight-p }
 
 parts : {n : Numbers} {l : Labels} → Seven (n .t) → Seven (n .«t_sum») → Seven (n .j) → Eight (n .nodes)
-    → Lengths (profileOf n l)
-parts ht hs hj hn =
-    record { seven-t = ht; seven-t-sum = hs; seven-j = hj; eight-a = hn .of-a; eight-v = hn .of-v; eight-p = hn .of-p }
+    → l .calls < 256 → Lengths (profileOf n l)
+parts ht hs hj hn hc =
+    record {
+      seven-t = ht;
+      seven-t-sum = hs;
+      seven-j = hj;
+      eight-a = hn .of-a;
+      eight-v = hn .of-v;
+      eight-p = hn .of-p;
+      byte-calls = hc;
+    }
+
+-- the count is a byte
+byte : (n : ℕ) → countedOf n < 256
+byte n = by (ltb n 255) refl
+  where
+    by : (b : Bool) → ltb n 255 ≡ b → cond b (n + 1) 255 < 256
+    by true h = let l = ltb→lt n 255 (subst T (sym h) tt) in omega arith
+    by false h = lit≤ tt
 
 keeps-cond : (b : Bool) {c d : Checked} → Leaves c → Leaves d → Leaves (cond b c d)
 keeps-cond true h k = h
@@ -118,20 +139,18 @@ keeps-cond false h k = k
 pub check-keeps : (signs : ControlSigns) (limits : ReachedLimits) (set-limits : Bool)
     (jf v-max v-min a-max a-min : Float)
     → Keeps (checkOf signs limits set-limits jf v-max v-min a-max a-min)
-unfolding checkOf
 check-keeps signs limits set-limits jf v-max v-min a-max a-min q h =
-    let tests = testsOf limits in
-    let j = jerksOf signs (q .t) jf in
-    let band = bandOf v-max v-max v-min in
-    let s = sumsOf (q .t) (q .«t_sum») in
-    let n = run (phaseOf tests set-limits a-max a-min band (q .t) j) 7 0 (nodesOf q) in
     let hs = sums (q .t) (q .«t_sum») (h .seven-t-sum) in
     let hj = jerks signs (q .t) jf in
-    let hn = phases tests set-limits a-max a-min band (q .t) j (nodesOf q) (nodes h) in
-    keeps-cond (not (s .ok) || refusedOf tests (q .t) (s .left))
-    (record { lengths = parts (h .seven-t) hs (h .seven-j) (nodes h) })
-    (keeps-cond (n .ok) (record { lengths = parts (h .seven-t) hs hj hn })
-    (record { lengths = parts (h .seven-t) hs hj hn }))
+    let hn = phases (testsOf limits) set-limits a-max a-min (bandOf v-max v-max v-min) (q .t) (jerksOf signs (q .t) jf)
+    (nodesOf q) (nodes h) in
+    let k = byte (q .calls) in
+    record {
+      lengths =
+          leaves signs limits set-limits jf v-max v-min a-max a-min q (λ (z : Profile). Lengths z)
+          (parts (h .seven-t) hs (h .seven-j) (nodes h) k) (parts (h .seven-t) hs hj hn k)
+          (parts (h .seven-t) hs hj hn k);
+    }
 
 -- ---- a trial, and trials in turn, whatever they try
 try-keeps : (l : Limits) (k : Trial) → Keeps (tryOf l k)
@@ -139,7 +158,7 @@ unfolding tryOf attemptOf
 try-keeps l k q h =
     keeps-cond (k .made)
     (check-keeps (k .signs) (k .label) false (k .jf) (l .«v_max») (l .«v_min») (l .«a_max») (l .«a_min») _
-    (parts refl (h .seven-t-sum) (h .seven-j) (nodes h)))
+    (parts refl (h .seven-t-sum) (h .seven-j) (nodes h) (h .byte-calls)))
     (record { lengths = h })
 
 pub tried-keeps : (l : Limits) (ks : List Trial) → Keeps (triedOf l ks)

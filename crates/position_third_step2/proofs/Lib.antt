@@ -1,2 +1,3 @@
--- What other crates use of the shapes.
+-- What other crates use of the shapes; and their counts and causes.
 pub mod Keeps
+pub mod Calls

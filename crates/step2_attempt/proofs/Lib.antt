@@ -1,2 +1,3 @@
 -- Trials made in turn, for whoever makes them.
 pub mod Turns
+pub mod Calls

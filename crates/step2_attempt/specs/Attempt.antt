@@ -2,6 +2,7 @@
 -- Definitions only.
 use mathlib.Core.Bool.{false, cond}
 use mathlib.Core.List.{List, [], _∷_}
+use Prim.Native.Nat.{ℕ, _+_}
 use lib.Ieee.{Float}
 use Rattle.profile.specs.declared.Profile.{Profile}
 use Rattle.profile.specs.declared.Checked.{Checked}
@@ -37,3 +38,10 @@ tryOf l k q = cond (k .made) (attemptOf l k q) (nothing q)
 unfoldable pub triedOf : Limits → List Trial → Profile → Checked
 triedOf l [] q = nothing q
 triedOf l (k ∷ ks) q = orElse (tryOf l k q) (triedOf l ks)
+
+-- how many of them call `check`: those that are made, up to the first with a yes
+abbrev pub callsOf : Limits → List Trial → Profile → ℕ
+callsOf l [] q = 0
+callsOf l (k ∷ ks) q =
+    let c = tryOf l k q in
+    cond (k .made) 1 0 + cond (c .ok) 0 (callsOf l ks (c .profile))
