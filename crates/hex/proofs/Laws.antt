@@ -1,7 +1,7 @@
 -- Characters out and back: the characters of bytes are digits, two a byte, and stand for these bytes. Assumes nothing.
 use mathlib.Core.Path.{_≡_, refl, ap}
 use mathlib.Core.Bool.{Bool, true, false, cond}
-use mathlib.Core.List.{List, [], _∷_}
+use mathlib.Core.List.{List, [], _∷_, _++_}
 use Prim.Native.Nat.{ℕ, suc, _+_, _-_, _*_, _/_, _%_, _≤_, _<_}
 use native.Mathlib.Omega.{arith}
 use lib.Dec.{ltb}
@@ -58,3 +58,7 @@ bytes-back (b ∷ bytes) h =
 pub length-hex : (bytes : List ℕ) → length (hexOf bytes) ≡ 2 * length bytes
 length-hex [] = refl
 length-hex (b ∷ bytes) = let h : length (hexOf bytes) ≡ 2 * length bytes = length-hex bytes in omega arith
+
+pub hex-append : (xs ys : List ℕ) → hexOf (xs ++ ys) ≡ hexOf xs ++ hexOf ys
+hex-append [] ys = refl
+hex-append (b ∷ xs) ys = rw (hex-append xs ys)

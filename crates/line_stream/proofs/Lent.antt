@@ -1,10 +1,10 @@
 -- A line's output, from its answer in a part of the output's own places. Assumes nothing.
 use mathlib.Core.Path.{_≡_, ap, sym, _∙_}
-use mathlib.Core.List.{List, [], _∷_, _++_, append-nil, append-assoc}
-use Prim.Native.Nat.{ℕ, suc, _+_, _-_, _≤_}
+use mathlib.Core.List.{List, [], _∷_, _++_}
+use Prim.Native.Nat.{ℕ, suc, _+_, _≤_}
 use native.Mathlib.Omega.{arith}
-use lib.ListN.{length, take, drop, set, length-drop, take-append-drop, drop-of-length-le}
-use lib.Seq.{sets, sets-eq, take-all, drop-drop}
+use lib.ListN.{length, drop, set}
+use Rattle.hex.proofs.Lent.{from, back, from-length, back-same, back-reply}
 use Rattle.line_kinds.specs.Kinds.{replyMost, rowOf}
 use Rattle.lines.specs.Answer.{answerOf, Outcome, outcomeOf}
 use Rattle.line_places.specs.Exactly.{kindOf, replyTo}
@@ -22,36 +22,7 @@ three out at a b c =
     let e2 : at + 2 ≡ suc (suc at) = omega arith in
     record { end-is = omega arith; out-is = rw (e1, e2) }
 
--- ---- the places from `at` on, lent and back
-abbrev from : List ℕ → ℕ → List ℕ
-from out at = take (length out - at) (drop at out)
-
-abbrev back : List ℕ → ℕ → List ℕ → List ℕ
-back out at places = take at out ++ (places ++ drop (length out - at) (drop at out))
-
-from-drop : (out : List ℕ) (at : ℕ) → from out at ≡ drop at out
-from-drop out at = take-all (length out - at) (drop at out) (rw (length-drop at out) (omega arith))
-
-from-length : (out : List ℕ) (at : ℕ) → length (from out at) ≡ length out - at
-from-length out at = rw (from-drop out at) (length-drop at out)
-
-back-same : (out : List ℕ) (at : ℕ) → back out at (from out at) ≡ out
-back-same out at = rw (take-append-drop (length out - at) (drop at out)) (take-append-drop at out)
-
-back-reply : (out reply : List ℕ) (at : ℕ) → at + length reply ≤ length out
-    → back out at (reply ++ drop (length reply) (from out at)) ≡ sets out at reply
-back-reply out reply at h =
-    let none : drop (length out - at) (drop at out) ≡ [] =
-    drop-of-length-le (drop at out) {i = length out - at} (rw (length-drop at out) (omega arith)) in
-    rw (
-      none,
-      from-drop out at,
-      append-nil (reply ++ drop (length reply) (drop at out)),
-      drop-drop (length reply) at out,
-      sets-eq reply out at h,
-    )
-    (sym (append-assoc (take at out) reply _))
-
+-- ---- the answer in the places from `at` on
 module _ (line out places : List ℕ) (at n m : ℕ) (h : at + answerMost ≤ length out)
     (e : record { number = n; filled = m; places = places } ≡ outcomeOf line (from out at)) where
   abbrev lent : List ℕ
