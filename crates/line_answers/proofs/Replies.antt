@@ -1,15 +1,13 @@
 -- Assumes nothing. The ways out of a reply, over any questions: a number, and the places as they came;
 -- or the reply in the first of them.
-use mathlib.Core.Path.{_≡_, ap, _∙_}
+use mathlib.Core.Path.{_≡_}
 use mathlib.Core.Bool.{Bool, false}
 use mathlib.Core.List.{List, _∷_, _++_}
-use Prim.Native.Nat.{ℕ, _≤_}
-use lib.ListN.{length}
-use borrow.Author.Tests.{ne-eqb, le-leb}
+use Prim.Native.Nat.{ℕ}
+use borrow.Author.Tests.{ne-eqb}
 use Rattle.hex.specs.Hex.{hexOf, fill}
 use Rattle.line_questions.specs.Questions.{Question, ask, AllYes}
 use Rattle.line_questions.proofs.Asked.{stops, none}
-use Rattle.line_reply.specs.Reply.{writtenOf}
 use Rattle.line_answers.specs.FrameAnswer.{repliedOf}
 
 module _ (bytes lent : List ℕ) where
@@ -25,9 +23,3 @@ module _ (bytes lent : List ℕ) where
       → record { number = 0; places = reply } ≡ repliedOf qs bytes lent
   unfolding repliedOf
   replied qs h reply e = rw (none qs h, e)
-
--- with enough places, writing fills them
-pub filled : (n : ℕ) (bytes lent left : List ℕ) (ok : Bool) → n ≤ length lent
-    → record { ok = ok; left = left } ≡ writtenOf n bytes lent → left ≡ fill (hexOf bytes) lent
-unfolding writtenOf
-filled n bytes lent left ok enough e = ap (λ x. x .left) e ∙ rw (le-leb n (length lent) enough)

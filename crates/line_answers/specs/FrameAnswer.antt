@@ -7,11 +7,11 @@ use lib.ListN.{length}
 use Rattle.hex.specs.Hex.{hexOf, fill}
 use Rattle.step2_solver.specs.declared.Shape.{Shape}
 use Rattle.line_kinds.specs.declared.Asks.{Asks}
-use Rattle.line_kinds.specs.declared.Asks.the-variants.{NoKind, OfCheck, OfShape, OfQuartics}
+use Rattle.line_kinds.specs.declared.Asks.the-variants.{NoKind, OfCheck, OfShape, OfQuartics, OfCauses}
 use Rattle.line_kinds.specs.Kinds.{placesOf}
 use Rattle.line_frame.specs.Frame.{Frame}
 use Rattle.line_questions.specs.Questions.{Question, ask, firstNo, questionsOf}
-use Rattle.line_reply.specs.Reply.{replyBytesOf}
+use Rattle.line_reply.specs.Reply.{replyBytesOf, causesBytesOf}
 use Rattle.line_answers.specs.CheckLine.{checkLineOf}
 use Rattle.line_answers.specs.ShapeLine.{shapeLineOf}
 use Rattle.line_answers.specs.QuarticLine.{quarticLineOf}
@@ -26,10 +26,11 @@ replyOf NoKind at = []
 replyOf OfCheck at = replyBytesOf (checkLineOf at)
 replyOf (OfShape shape) at = replyBytesOf (shapeLineOf shape at)
 replyOf (OfQuartics shape) at = quarticLineOf shape at
+replyOf (OfCauses shape) at = causesBytesOf (shapeLineOf shape at)
 
--- a line of twelve numbers asks the quartics of a shape, or the shape
-abbrev pub ofShape : Bool → Shape → Asks
-ofShape quartics shape = cond quartics (OfQuartics shape) (OfShape shape)
+-- a line of twelve numbers asks the quartics of a shape, or the shape, with count and cause or without
+abbrev pub ofShape : Bool → Bool → Shape → Asks
+ofShape quartics causes shape = cond quartics (OfQuartics shape) (cond causes (OfCauses shape) (OfShape shape))
 
 -- 0, with the reply's characters in the first lent places;
 -- or the number of the first question with a no, and the places as they came

@@ -17,7 +17,8 @@ pub fn reply_to(asks: Asks, frame: &[u8; FRAME], reply: &mut [u8]) -> u32
     match asks {
         Asks::NoKind => 0,
         Asks::OfCheck => check_line(frame, reply),
-        Asks::OfShape(shape) => shape_line(false, shape, frame, reply),
-        Asks::OfQuartics(shape) => shape_line(true, shape, frame, reply),
+        Asks::OfShape(shape) => shape_line(false, false, shape, frame, reply),
+        Asks::OfQuartics(shape) => shape_line(true, false, shape, frame, reply),
+        Asks::OfCauses(shape) => shape_line(false, true, shape, frame, reply),
     }
 }

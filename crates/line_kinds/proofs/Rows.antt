@@ -1,29 +1,30 @@
--- The table of kinds: what holds of every row of it holds of the row of any number. Assumes nothing.
-use mathlib.Core.Path.{_≡_, refl}
-use mathlib.Core.Bool.{Bool, true, false, cond}
+-- The table of kinds: what is computed to hold of every row of it holds of the row of any number. Assumes nothing.
+use mathlib.Core.Path.{_≡_, refl, sym}
+use mathlib.Core.Bool.{Bool, true, false, cond, _&&_, true≢false}
 use mathlib.Core.List.{List, [], _∷_}
 use Prim.Native.Nat.{ℕ, _*_, _≤_}
-use lib.Dec.{eqb, lit≤}
+use lib.Dec.{eqb, leb}
+use borrow.Author.Tests.{eqb-true, leb-true}
 use Rattle.line_kinds.specs.declared.Row.{Row}
 use Rattle.line_kinds.specs.Kinds.{Kind, kinds, rowIn, rowOf, frameMost, replyMost, spread, placesOf}
 
--- ---- what holds of every row of a table, and of the row that stands for no kind
-abbrev pub Each : (Row → Type 0) → List Kind → Type 0
-Each P [] = Unit {0}
-Each P (k ∷ ks) = P (k .row) × Each P ks
+both : (a b : Bool) → a && b ≡ true → (a ≡ true) × (b ≡ true)
+both true b h = (refl, h)
+both false b h = absurd (true≢false (sym h))
 
-module _ (P : Row → Type 0) (none : (n : ℕ) → P (rowIn [] n)) where
-  by : (b : Bool) {x y : Row} → P x → P y → P (cond b x y)
-  by true p q = p
-  by false p q = q
+-- ---- of every row of a table, and of the row that stands for no kind
+module _ (f : Row → Bool) where
+  abbrev every : List Kind → Bool
+  every [] = true
+  every (k ∷ ks) = f (k .row) && every ks
 
-  each-in : (ks : List Kind) → Each P ks → (n : ℕ) → P (rowIn ks n)
-  each-in [] h n = none n
-  each-in (k ∷ ks) h n = by (eqb n (k .number)) (h .0) (each-in ks (h .1) n)
-
-  pub every-row : Each P kinds → (n : ℕ) → P (rowOf n)
-  unfolding rowOf
-  every-row h n = each-in kinds h n
+  each-in : (n : ℕ) → f (rowIn [] n) ≡ true → (ks : List Kind) → every ks ≡ true → f (rowIn ks n) ≡ true
+  each-in n none [] h = none
+  each-in n none (k ∷ ks) h = by (eqb n (k .number)) (each-in n none ks)
+    where
+      by : (b : Bool) → (every ks ≡ true → f (rowIn ks n) ≡ true) → f (cond b (k .row) (rowIn ks n)) ≡ true
+      by true r = both (f (k .row)) (every ks) h .0
+      by false r = r (both (f (k .row)) (every ks) h .1)
 
 -- the places are those of what is asked, and no row is above the sizes, where a line has two characters a byte
 abbrev pub Sound : Row → Type 0
@@ -33,24 +34,22 @@ Sound r =
     × (r .places ≤ replyMost)
     × (r .places ≤ spread * (2 * r .bytes))
 
-pub sound : (n : ℕ) → Sound (rowOf n)
-sound =
-    every-row Sound (λ n. (refl, lit≤ tt, lit≤ tt, lit≤ tt)) (
-      (refl, lit≤ tt, lit≤ tt, lit≤ tt),
-      (
-        (refl, lit≤ tt, lit≤ tt, lit≤ tt),
-        (
-          (refl, lit≤ tt, lit≤ tt, lit≤ tt),
-          (
-            (refl, lit≤ tt, lit≤ tt, lit≤ tt),
-            (
-              (refl, lit≤ tt, lit≤ tt, lit≤ tt),
-              (
-                (refl, lit≤ tt, lit≤ tt, lit≤ tt),
-                ((refl, lit≤ tt, lit≤ tt, lit≤ tt), ((refl, lit≤ tt, lit≤ tt, lit≤ tt), tt)),
-              ),
-            ),
-          ),
-        ),
-      ),
+abbrev isSound : Row → Bool
+isSound r =
+    eqb (r .places) (placesOf (r .asks))
+    && (leb (r .bytes) frameMost && (leb (r .places) replyMost && leb (r .places) (spread * (2 * r .bytes))))
+
+of-sound : (r : Row) → isSound r ≡ true → Sound r
+of-sound r h =
+    let a = both (eqb (r .places) (placesOf (r .asks))) _ h in
+    let b = both (leb (r .bytes) frameMost) _ (a .1) in
+    let c = both (leb (r .places) replyMost) _ (b .1) in (
+      eqb-true (r .places) (placesOf (r .asks)) (a .0),
+      leb-true (r .bytes) frameMost (b .0),
+      leb-true (r .places) replyMost (c .0),
+      leb-true (r .places) (spread * (2 * r .bytes)) (c .1),
     )
+
+pub sound : (n : ℕ) → Sound (rowOf n)
+unfolding rowOf
+sound n = of-sound (rowIn kinds n) (each-in isSound n refl kinds refl)

@@ -7,7 +7,7 @@ use lib.Dec.{eqb}
 use Rattle.step2_solver.specs.declared.Shape.{Shape}
 use Rattle.step2_solver.specs.declared.Shape.the-variants.{Acc0Acc1Vel, Acc1Vel, Acc0Vel, Acc0Acc1, Acc0}
 use Rattle.line_kinds.specs.declared.Asks.{Asks}
-use Rattle.line_kinds.specs.declared.Asks.the-variants.{NoKind, OfCheck, OfShape, OfQuartics}
+use Rattle.line_kinds.specs.declared.Asks.the-variants.{NoKind, OfCheck, OfShape, OfQuartics, OfCauses}
 use Rattle.line_kinds.specs.declared.Row.{Row}
 
 -- ---- sizes
@@ -18,15 +18,19 @@ frameMost = 148
 abbrev pub lineMost : ℕ
 lineMost = 2 * frameMost
 
--- a record is 364 bytes, two quartics are 114: the places of each reply, two a byte, and of the longest
+-- a record is 364 bytes, with count and cause 366, two quartics are 114: the places of each reply, two a byte, and of
+-- the longest
 abbrev pub recordPlaces : ℕ
 recordPlaces = 2 * 364
+
+abbrev pub causesPlaces : ℕ
+causesPlaces = 2 * 366
 
 abbrev pub quarticsPlaces : ℕ
 quarticsPlaces = 2 * 114
 
 abbrev pub replyMost : ℕ
-replyMost = recordPlaces
+replyMost = causesPlaces
 
 -- the most characters of an answer for each character of its line, the line feeds counted
 abbrev pub spread : ℕ
@@ -37,6 +41,7 @@ placesOf NoKind = 0
 placesOf OfCheck = recordPlaces
 placesOf (OfShape shape) = recordPlaces
 placesOf (OfQuartics shape) = quarticsPlaces
+placesOf (OfCauses shape) = causesPlaces
 
 -- the second and the third shape try the roots of quartics; their lines have the answers
 abbrev pub takesRoots : Shape → Bool
@@ -64,6 +69,11 @@ kinds =
     ∷ kind 0x05 97 (OfShape Acc0)
     ∷ kind 0x06 97 (OfQuartics Acc1Vel)
     ∷ kind 0x07 97 (OfQuartics Acc0Vel)
+    ∷ kind 0x11 97 (OfCauses Acc0Acc1Vel)
+    ∷ kind 0x12 147 (OfCauses Acc1Vel)
+    ∷ kind 0x13 147 (OfCauses Acc0Vel)
+    ∷ kind 0x14 97 (OfCauses Acc0Acc1)
+    ∷ kind 0x15 97 (OfCauses Acc0)
     ∷ []
 
 -- the row of the number n; a frame of no bytes, which asks nothing, where there is no such kind

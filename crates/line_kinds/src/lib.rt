@@ -8,10 +8,12 @@ pub const FRAME: usize = 148;
 
 pub const LINE: usize = 2 * FRAME;
 
-pub const REPLY: usize = RECORD;
+pub const REPLY: usize = CAUSES;
 
-// The places of a record and of two quartics.
+// The places of a record, of a record with count and cause, and of two quartics.
 pub const RECORD: usize = 728;
+
+pub const CAUSES: usize = RECORD + 4;
 
 pub const QUARTICS: usize = 228;
 
@@ -24,6 +26,7 @@ pub enum Asks {
     OfCheck,
     OfShape(Shape),
     OfQuartics(Shape),
+    OfCauses(Shape),
 }
 
 // The bytes of a frame, the places of its reply, and what it asks.
@@ -90,6 +93,31 @@ pub fn row_of(kind: u8) -> Row
             bytes: 97,
             places: QUARTICS,
             asks: Asks::OfQuartics(Shape::Acc0Vel),
+        },
+        0x11 => Row {
+            bytes: 97,
+            places: CAUSES,
+            asks: Asks::OfCauses(Shape::Acc0Acc1Vel),
+        },
+        0x12 => Row {
+            bytes: 147,
+            places: CAUSES,
+            asks: Asks::OfCauses(Shape::Acc1Vel),
+        },
+        0x13 => Row {
+            bytes: 147,
+            places: CAUSES,
+            asks: Asks::OfCauses(Shape::Acc0Vel),
+        },
+        0x14 => Row {
+            bytes: 97,
+            places: CAUSES,
+            asks: Asks::OfCauses(Shape::Acc0Acc1),
+        },
+        0x15 => Row {
+            bytes: 97,
+            places: CAUSES,
+            asks: Asks::OfCauses(Shape::Acc0),
         },
         _ => Row {
             bytes: 0,

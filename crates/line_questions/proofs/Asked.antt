@@ -1,9 +1,11 @@
 -- The first question with a no, over any list of questions: where the first ones were answered yes, the rest decides;
--- and where none was answered no, each was answered yes. Assumes nothing.
-use mathlib.Core.Path.{_≡_, refl}
-use mathlib.Core.Bool.{Bool, true, false, cond}
+-- where none was answered no, each was answered yes; and what a harder last question changes. Assumes nothing.
+use mathlib.Core.Path.{_≡_, refl, sym}
+use mathlib.Core.Bool.{Bool, true, false, cond, true≢false}
 use mathlib.Core.List.{List, [], _∷_, _++_}
 use Prim.Native.Nat.{ℕ}
+use lib.Dec.{eqb}
+use borrow.Author.Tests.{ne-eqb}
 use Rattle.line_questions.specs.Questions.{Question, ask, firstNo, AllYes}
 
 -- every question of a list has a number, which is not 0
@@ -44,3 +46,19 @@ all-first (q ∷ first) rest h = (h .0, all-first first rest (h .1))
 pub all-rest : (first rest : List Question) → AllYes (first ++ rest) → AllYes rest
 all-rest [] rest h = h
 all-rest (q ∷ first) rest h = all-rest first rest (h .1)
+
+-- where the last question is harder, the number is the same unless none was due: then this question decides
+pub harder-last : (qs : List Question) (n : ℕ) (a b : Bool) → Numbered qs → (n ≡ 0 → ⊥) → (a ≡ true → b ≡ true)
+    → let easier = firstNo (qs ++ (ask n b ∷ [])) in
+    firstNo (qs ++ (ask n a ∷ [])) ≡ cond (eqb easier 0) (cond a 0 n) easier
+harder-last [] n true true h k l = refl
+harder-last [] n true false h k l = absurd (true≢false (sym (l refl)))
+harder-last [] n false true h k l = refl
+harder-last [] n false false h k l = rw (ne-eqb n 0 k)
+harder-last (q ∷ qs) n a b h k l = by (q .yes) (firstNo (qs ++ (ask n b ∷ []))) (harder-last qs n a b (h .1) k l)
+  where
+    by : (c : Bool) (easier : ℕ) → firstNo (qs ++ (ask n a ∷ [])) ≡ cond (eqb easier 0) (cond a 0 n) easier
+        → cond c (firstNo (qs ++ (ask n a ∷ []))) (q .number)
+        ≡ cond (eqb (cond c easier (q .number)) 0) (cond a 0 n) (cond c easier (q .number))
+    by true easier e = e
+    by false easier e = rw (ne-eqb (q .number) 0 (h .0))

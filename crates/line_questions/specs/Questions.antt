@@ -13,7 +13,7 @@ use Rattle.step2_solver.specs.New.{solverOf, limitsOf}
 use Rattle.step2_quartics.specs.declared.Quartics.{Quartics}
 use Rattle.step2_quartics.specs.Quartics.{quarticsOf}
 use Rattle.line_kinds.specs.declared.Asks.{Asks}
-use Rattle.line_kinds.specs.declared.Asks.the-variants.{NoKind, OfCheck, OfShape, OfQuartics}
+use Rattle.line_kinds.specs.declared.Asks.the-variants.{NoKind, OfCheck, OfShape, OfQuartics, OfCauses}
 use Rattle.line_kinds.specs.declared.Row.{Row}
 use Rattle.line_kinds.specs.Kinds.{takesRoots, lineMost, rowOf}
 use Rattle.line_frame.specs.Frame.{Frame, byteAt}
@@ -75,13 +75,17 @@ AllYes [] = Unit {0}
 AllYes (q ∷ qs) = (q .yes ≡ true) × AllYes qs
 
 -- ---- who is asked what
+abbrev pub shapeQuestions : Shape → Frame → List Question
+shapeQuestions shape at =
+    ask 5 (countsFit shape at) ∷ ask 6 (moveFinite at) ∷ ask 7 (countsSuit shape (quarticsAt shape at) at) ∷ []
+
 -- what each kind is asked of its frame, between the length and the places
 unfoldable pub questionsOf : Asks → Frame → List Question
 questionsOf NoKind at = []
 questionsOf OfCheck at = ask 5 (choicesFit at) ∷ ask 6 (checkFinite at) ∷ []
-questionsOf (OfShape shape) at =
-    ask 5 (countsFit shape at) ∷ ask 6 (moveFinite at) ∷ ask 7 (countsSuit shape (quarticsAt shape at) at) ∷ []
+questionsOf (OfShape shape) at = shapeQuestions shape at
 questionsOf (OfQuartics shape) at = ask 6 (moveFinite at) ∷ []
+questionsOf (OfCauses shape) at = shapeQuestions shape at
 
 -- a line where p places are lent
 abbrev pub lineQuestions : List ℕ → Row → List Question

@@ -9,13 +9,14 @@ use lib.ListN.{length, getD, take, drop, set, length-append, drop-of-length-le}
 use lib.Seq.{drop-cons, sets, sets-eq, length-sets, take-append-seam}
 use lib.Ieee.{Float}
 use Rattle.number_bytes.specs.Bytes.{numberBytes}
-use Rattle.row.specs.Row.{part, numbersIn}
+use Rattle.row.specs.Row.{Numbers, part, numbersIn}
 use Rattle.row.proofs.Rows.{part-long}
 use Rattle.profile.specs.declared.in_place.Verdict.{Verdict}
 use Rattle.roots.specs.declared.Need.{Need}
 use Rattle.roots.specs.declared.Three.{Three}
 use Rattle.roots.specs.Quartic.{needOf, needNumber, resolventOf}
-use Rattle.line_reply.specs.Reply.{numbersBytes, headOf, rowsOf, quarticBytesOf}
+use Rattle.profile.specs.Parts.{profileIn, checkedIn}
+use Rattle.line_reply.specs.Reply.{numbersBytes, headOf, rowsOf, replyBytesOf, quarticBytesOf}
 
 pub eight : (l : List ℕ) (i b0 b1 b2 b3 b4 b5 b6 b7 : ℕ)
     → set (set (set (set (set (set (set (set l i b0) (i + 1) b1) (i + 2) b2) (i + 3) b3) (i + 4) b4) (i + 5) b5)
@@ -95,6 +96,27 @@ head-first r b l e h =
     let n : length b ≡ 364 = sym (length-sets b 0 (headOf r)) ∙ ap length (sym e) ∙ h in
     let k : 0 + 4 ≤ length b = omega arith in
     rw (e, sets-eq (headOf r) b 0 k) (take-append-seam (headOf r) (drop (0 + 4) b))
+
+-- ---- how many bytes a record is: four in the head, and eight for each number
+six : (t s j a v p : List ℕ)
+    → length (t ++ s ++ j ++ a ++ v ++ p) ≡ length t + length s + length j + length a + length v + length p
+six t s j a v p = simp length-append
+
+pub rows-length : (n : Numbers) → length (n .t) ≡ 7 → length (n .«t_sum») ≡ 7 → length (n .j) ≡ 7
+    → length (n .nodes .a) ≡ 8 → length (n .nodes .v) ≡ 8 → length (n .nodes .p) ≡ 8 → length (rowsOf n) ≡ 360
+unfolding rowsOf
+rows-length n t s j a v p =
+    six (numbersBytes (n .t)) (numbersBytes (n .«t_sum»)) (numbersBytes (n .j)) (numbersBytes (n .nodes .a))
+    (numbersBytes (n .nodes .v))
+    (numbersBytes (n .nodes .p))
+    ∙ simp (length-numbers, t, s, j, a, v, p)
+
+pub record-length : (x : List Float) (r : Verdict) → length x ≡ 48 → length (replyBytesOf (checkedIn x r)) ≡ 364
+unfolding replyBytesOf headOf profileIn
+record-length x r h =
+    rw (rows-length (numbersIn x) (part-long 0 7 x (omega arith)) (part-long 7 7 x (omega arith))
+    (part-long 14 7 x (omega arith)) (part-long 21 8 x (omega arith)) (part-long 29 8 x (omega arith))
+    (part-long 37 8 x (omega arith)))
 
 -- two runs of stores, one right after the other, over a whole list
 pub both : (xs ys l : List ℕ) (n : ℕ) → 0 + length xs ≡ n → length l ≡ n + length ys

@@ -1,5 +1,5 @@
--- The replies: of kinds 00 to 05 the verdict and the whole record, in 364 bytes; of kinds 06 and 07 two quartics, in
--- 114. Definitions only.
+-- The replies: of kinds 00 to 05 the verdict and the whole record, in 364 bytes; of kinds 11 to 15 the same with count
+-- and cause, in 366; of kinds 06 and 07 two quartics, in 114. Definitions only.
 use mathlib.Core.Bool.{true, false, cond}
 use mathlib.Core.List.{List, [], _∷_, _++_}
 use Prim.Native.Nat.{ℕ}
@@ -9,6 +9,7 @@ use lib.Ieee.{Float, nan}
 use Rattle.hex.specs.Hex.{Filled, hexOf, fill}
 use Rattle.number_bytes.specs.Bytes.{numberBytes}
 use Rattle.labels.specs.Labels.{labelNumber, directionNumber, signsNumber}
+use Rattle.labels.specs.Causes.{causeNumber}
 use Rattle.row.specs.Row.{Numbers}
 use Rattle.profile.specs.Parts.{numbersOf, labelsOf}
 use Rattle.profile.specs.declared.in_place.Verdict.{Verdict}
@@ -40,6 +41,10 @@ unfoldable pub replyBytesOf : Checked → List ℕ
 replyBytesOf c =
     let q = c .profile in
     headOf (record { ok = c .ok; labels = labelsOf q }) ++ rowsOf (numbersOf q)
+
+-- and after it the count of the calls of `check` and the cause of the last one
+unfoldable pub causesBytesOf : Checked → List ℕ
+causesBytesOf c = let q = c .profile in replyBytesOf c ++ (q .calls ∷ causeNumber (q .cause) ∷ [])
 
 -- for x⁴ + a x³ + b x² + c x + d: the need, a b c d, and the resolvent's three arguments
 unfoldable pub quarticBytesOf : Float → Float → Float → Float → List ℕ

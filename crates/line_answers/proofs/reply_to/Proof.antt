@@ -34,9 +34,15 @@ returns-4 c =
     let k = c .before .before in
     rw (k .before .before .before .asks2 .given .1) (k .shape-line2 .ensures)
 
+returns-5 : tie.Need-returns-5
+returns-5 c =
+    let k = c .before .before in
+    rw (k .before .before .before .asks3 .given .1) (k .shape-line3 .ensures)
+
 pub reply-to-spec : {M : Type 1} → statement M
 reply-to-spec =
     tie.close
     (tie.spec (λ c. search needs) (λ c. search needs) (λ c κs. search needs) (λ c. search needs)
-    (λ c κs. search needs) (λ c. search needs) (λ c κs. search needs) returns (λ c. search needs) returns-2
-    (λ c. search needs) returns-3 (λ c. search needs) returns-4)
+    (λ c κs. search needs) (λ c. search needs) (λ c κs. search needs) (λ c. search needs) (λ c κs. search needs)
+    returns (λ c. search needs) returns-2 (λ c. search needs) returns-3 (λ c. search needs) returns-4
+    (λ c. search needs) returns-5)

@@ -30,7 +30,7 @@ returns c =
     let s = n .before .before in
     let q = s .args in
     let b : length (q .block .now) ≡ 65536 = search needs in
-    let o : length (q .out .now) ≡ 263602 = search needs in
+    let o : length (q .out .now) ≡ 263610 = search needs in
     let e : n .count .result ≡ clamped (toZ w64 (ofZ w64 (q .got))) (length (q .block .now)) = n .count .ensures .1 in
     subst
     (λ (p : Progress (Unit {0})). Streams p (c .stream .result .used) (c .stream .result .count)

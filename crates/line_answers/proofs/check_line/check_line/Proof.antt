@@ -17,7 +17,8 @@ use Rattle.line_questions.specs.Questions.{ask, choicesFit, questionsOf}
 use Rattle.line_reply.specs.Reply.{replyBytesOf, writtenOf}
 use Rattle.line_answers.specs.CheckLine.{checkedOf}
 use Rattle.line_answers.specs.FrameAnswer.{replyOf, frameAnswerOf}
-use Rattle.line_answers.proofs.Replies.{refused, replied, filled}
+use Rattle.line_reply.proofs.Written.{filled}
+use Rattle.line_answers.proofs.Replies.{refused, replied}
 use Rattle.line_answers.proofs.check_line.check_line.Statement.{statement}
 use Rattle.line_answers.proofs.check_line.check_line.Tie as tie
 

@@ -4,8 +4,7 @@ use borrow.Author.Needs.{needs}
 use Rattle.profile.specs.declared.Checked.{Checked}
 use Rattle.profile.specs.Parts.{profileIn}
 use Rattle.position_third_step2.specs.Shape.{shapeOf}
-use Rattle.line_kinds.specs.Kinds.{recordPlaces}
-use Rattle.line_reply.specs.Reply.{replyBytesOf, writtenOf}
+use Rattle.line_answers.specs.ShapeLine.{shapeWritten}
 use Rattle.line_answers.proofs.Records.{shaped}
 use Rattle.line_answers.proofs.shape_line.shape_reply.Statement.{statement}
 use Rattle.line_answers.proofs.shape_line.shape_reply.Tie as tie
@@ -15,8 +14,8 @@ unfolding profileIn
 returns c =
     let w = c .before .before in let k = w .before .before .before in let l = k .before in
     let b = l .before .before in let s = b .before .before in let q = s .args in let lent = q .reply .now in
-    w .write-record .ensures
-    ∙ ap (λ (y : Checked). writtenOf recordPlaces (replyBytesOf y) lent)
+    w .write-answer .ensures
+    ∙ ap (λ (y : Checked). shapeWritten (q .causes) y lent)
     (shaped (l .start-labels .ensures) (shapeOf (q .shape) (q .s) (q .l) (q .q) (q .first) (q .second)) (q .x)
     (b .start .ensures) (k .ask .ensures))
 
