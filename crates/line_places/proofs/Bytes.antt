@@ -18,6 +18,11 @@ use Rattle.labels.specs.declared.Direction.{Direction}
 use Rattle.labels.specs.declared.Direction.the-variants.{UP, DOWN}
 use Rattle.labels.specs.declared.ControlSigns.{ControlSigns}
 use Rattle.labels.specs.declared.ControlSigns.the-variants.{UDDU, UDUD}
+use Rattle.labels.specs.declared.causes.Cause.{Cause}
+use Rattle.labels.specs.declared.causes.Cause.the-variants.{Yes, NegativeTime, T3, T1, T5, Total, VelocityAtZero}
+use Rattle.labels.specs.declared.causes.Cause.the-variants.{EndPosition, EndVelocity, EndAcceleration}
+use Rattle.labels.specs.declared.causes.Cause.the-variants.{AccelerationLimit, VelocityLimit, NoCall}
+use Rattle.labels.specs.Causes.{causeNumber}
 use Rattle.row.specs.Row.{Numbers}
 use Rattle.profile.specs.declared.Checked.{Checked}
 use Rattle.profile.specs.Parts.{numbersOf}
@@ -25,7 +30,8 @@ use Rattle.roots.specs.declared.Need.{Need}
 use Rattle.roots.specs.declared.Need.the-variants.{Nothing, Cube, Resolvent}
 use Rattle.roots.specs.Quartic.{needOf, needNumber, resolventOf}
 use Rattle.line_frame.specs.Frame.{Frame}
-use Rattle.line_reply.specs.Reply.{numbersBytes, headOf, rowsOf, replyBytesOf, quarticBytesOf, quarticBytes}
+use Rattle.line_reply.specs.Reply.{numbersBytes, headOf, rowsOf, replyBytesOf, causesBytesOf}
+use Rattle.line_reply.specs.Reply.{quarticBytesOf, quarticBytes}
 use Rattle.step2_solver.specs.declared.Shape.{Shape}
 use Rattle.line_questions.specs.Questions.{quarticsAt}
 use Rattle.line_answers.specs.QuarticLine.{bothBytes, quarticLineOf}
@@ -83,6 +89,21 @@ signs-lt : (c : ControlSigns) → signsNumber c < 256
 signs-lt UDDU = lit≤ tt
 signs-lt UDUD = lit≤ tt
 
+cause-lt : (c : Cause) → causeNumber c < 256
+cause-lt Yes = lit≤ tt
+cause-lt NegativeTime = lit≤ tt
+cause-lt T3 = lit≤ tt
+cause-lt T1 = lit≤ tt
+cause-lt T5 = lit≤ tt
+cause-lt Total = lit≤ tt
+cause-lt VelocityAtZero = lit≤ tt
+cause-lt EndPosition = lit≤ tt
+cause-lt EndVelocity = lit≤ tt
+cause-lt EndAcceleration = lit≤ tt
+cause-lt AccelerationLimit = lit≤ tt
+cause-lt VelocityLimit = lit≤ tt
+cause-lt NoCall = lit≤ tt
+
 need-lt : (n : Need) → needNumber n < 256
 need-lt Nothing = lit≤ tt
 need-lt Cube = lit≤ tt
@@ -115,6 +136,11 @@ reply-bytes c =
         ),
       ),
     )
+
+-- kinds 11 to 15: and count and cause
+pub causes-bytes : (c : Checked) → c .profile .calls < 256 → Bytes (causesBytesOf c)
+unfolding causesBytesOf
+causes-bytes c h = bytes-append (replyBytesOf c) _ (reply-bytes c) (h, (cause-lt (c .profile .cause), tt))
 
 -- ---- kinds 06 and 07: two quartics
 quartic : (a b c d : Float) → Bytes (quarticBytesOf a b c d)

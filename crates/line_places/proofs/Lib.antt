@@ -2,3 +2,4 @@
 pub mod Bytes
 pub mod Replies
 pub mod Places
+pub mod ActsAs

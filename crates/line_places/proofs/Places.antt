@@ -11,10 +11,11 @@ use borrow.Author.Tests.{ne-eqb, eqb-true, eqb-false, leb-true}
 use Rattle.hex.specs.Hex.{bytesOf}
 use Rattle.hex.proofs.Laws.{length-hex}
 use Rattle.line_kinds.specs.declared.Asks.{Asks}
-use Rattle.line_kinds.specs.declared.Asks.the-variants.{NoKind, OfCheck, OfShape, OfQuartics}
+use Rattle.line_kinds.specs.declared.Asks.the-variants.{NoKind, OfCheck, OfShape, OfQuartics, OfCauses}
 use Rattle.line_kinds.proofs.Rows.{sound}
 use Rattle.line_frame.specs.Frame.{Frame, byteAt}
-use Rattle.line_questions.specs.Questions.{Question, ask, placesFit, firstNo, questionsOf, AllYes}
+use Rattle.step2_solver.specs.declared.Shape.{Shape}
+use Rattle.line_questions.specs.Questions.{Question, ask, placesFit, firstNo, shapeQuestions, questionsOf, AllYes}
 use Rattle.line_questions.specs.Questions.{lineQuestions, frameQuestions, questions}
 use Rattle.line_questions.proofs.Asked.{Numbered, all-yes, all-rest}
 use Rattle.line_answers.specs.FrameAnswer.{replyOf, repliedOf}
@@ -41,7 +42,7 @@ up-to-eight (q ∷ qs) h = by (q .yes) (h .0 .1) (up-to-eight qs (h .1))
     by true h k = k
     by false h k = h
 
-numbered : (qs : List Question) → UpToEight qs → Numbered qs
+pub numbered : (qs : List Question) → UpToEight qs → Numbered qs
 numbered [] h = tt
 numbered (q ∷ qs) h = (h .0 .0, numbered qs (h .1))
 
@@ -49,13 +50,17 @@ eight-numbers : (first rest : List Question) → UpToEight first → UpToEight r
 eight-numbers [] rest h k = k
 eight-numbers (q ∷ first) rest h k = (h .0, eight-numbers first rest (h .1) k)
 
-of-asks : (asks : Asks) (at : Frame) → UpToEight (questionsOf asks at)
+of-shape : (shape : Shape) (at : Frame) → UpToEight (shapeQuestions shape at)
+of-shape shape at =
+    ((λ e. omega arith, lit≤ tt), ((λ e. omega arith, lit≤ tt), ((λ e. omega arith, lit≤ tt), tt)))
+
+pub of-asks : (asks : Asks) (at : Frame) → UpToEight (questionsOf asks at)
 unfolding questionsOf
 of-asks NoKind at = tt
 of-asks OfCheck at = ((λ e. omega arith, lit≤ tt), ((λ e. omega arith, lit≤ tt), tt))
-of-asks (OfShape shape) at =
-    ((λ e. omega arith, lit≤ tt), ((λ e. omega arith, lit≤ tt), ((λ e. omega arith, lit≤ tt), tt)))
+of-asks (OfShape shape) at = of-shape shape at
 of-asks (OfQuartics shape) at = ((λ e. omega arith, lit≤ tt), tt)
+of-asks (OfCauses shape) at = of-shape shape at
 
 module _ (line lent : List ℕ) where
   abbrev at : Frame
