@@ -2,7 +2,7 @@
 -- bytes of what the shape left. Assumes nothing.
 use mathlib.Core.Path.{_≡_, refl, sym, ap, _∙_, subst}
 use mathlib.Core.Bool.{Bool, true, false, cond}
-use mathlib.Core.List.{List, [], _∷_, _++_}
+use mathlib.Core.List.{List, [], _∷_, _++_, append-assoc}
 use Prim.Native.Nat.{ℕ, _+_, _*_, _<_}
 use lib.Dec.{T, eqb, lit≤}
 use lib.ListN.{length, drop}
@@ -17,17 +17,18 @@ use Rattle.position_third_step2.specs.Shape.{fresh}
 use Rattle.step2_arrives.specs.Moves.{MoveNumbers, asked}
 use Rattle.hex.specs.Hex.{bytesOf, hexOf}
 use Rattle.line_kinds.specs.declared.Asks.{Asks}
-use Rattle.line_kinds.specs.declared.Asks.the-variants.{OfShape}
+use Rattle.line_kinds.specs.declared.Asks.the-variants.{OfShape, OfCauses}
 use Rattle.line_frame.specs.Frame.{Frame, byteAt, wordAt, numberAt}
 use Rattle.line_frame.specs.Numbers.{moveOf, moveFinite, rootAnswerOf, firstAnswerOf, secondAnswerOf}
 use Rattle.line_frame.proofs.Numbers.{each-finite}
-use Rattle.line_questions.specs.Questions.{ask, placesFit, questionsOf, AllYes}
-use Rattle.line_reply.specs.Reply.{replyBytesOf}
+use Rattle.line_questions.specs.Questions.{Question, ask, placesFit, shapeQuestions, questionsOf, AllYes}
+use Rattle.labels.specs.Causes.{causeNumber}
+use Rattle.line_reply.specs.Reply.{replyBytesOf, causesBytesOf}
 use Rattle.line_answers.specs.ShapeLine.{shapeLineOf}
 use Rattle.line_answers.specs.FrameAnswer.{replyOf, repliedOf}
 use Rattle.lines.specs.Answer.{answerOf}
 use Rattle.line_places.specs.Exactly.{rowFor, replyTo}
-use Rattle.line_places.proofs.Bytes.{reply-bytes}
+use Rattle.line_places.proofs.Replies.{reply-of-bytes}
 use Rattle.line_places.proofs.Places.{frame-yes}
 use Rattle.line_arrives.specs.LineArrives.{AsksShape, moveIn}
 use Rattle.line_arrives.proofs.Characters.{bytes-first}
@@ -84,30 +85,48 @@ module _ (line lent : List ℕ) (zero : answerOf line lent .number ≡ 0) (k : A
   at = byteAt (bytesOf line)
 
   -- every question that a shape is asked was answered yes
-  asked-yes : AllYes (questionsOf (OfShape (k .shape)) at ++ (ask 8 (placesFit (rowFor line) (length lent)) ∷ []))
+  asked-yes : AllYes (shapeQuestions (k .shape) at ++ (ask 8 (placesFit (rowFor line) (length lent)) ∷ []))
+  unfolding questionsOf
   asked-yes =
-      subst (λ (asks : Asks). AllYes (questionsOf asks at ++ (ask 8 (placesFit (rowFor line) (length lent)) ∷ [])))
-      (k .asked)
+      subst (λ (qs : List Question). AllYes (qs ++ (ask 8 (placesFit (rowFor line) (length lent)) ∷ [])))
+      (ap (λ (asks : Asks). questionsOf asks at) (k .asked) ∙ either (k .causes))
       (frame-yes line lent zero)
+    where
+      either : (b : Bool) → questionsOf (cond b (OfCauses (k .shape)) (OfShape (k .shape))) at
+          ≡ shapeQuestions (k .shape) at
+      either true = refl
+      either false = refl
 
   pub numbers-are : MoveNumbers (moveIn line)
-  unfolding questionsOf
   numbers-are = twelve at (asked-yes .1 .0)
 
-  -- the places after the reply
-  abbrev pub rest : List ℕ
-  rest = drop (length (replyTo line)) lent
+  -- count and cause, where the reply has them, and the places after the reply
+  abbrev left : Checked
+  left = shaped (k .shape) line
 
-  places-are : answerOf line lent .places ≡ replyTo line ++ rest
+  abbrev beyond : List ℕ
+  beyond = drop (length (replyTo line)) lent
+
+  abbrev pub rest : List ℕ
+  rest = cond (k .causes) (left .profile .calls ∷ causeNumber (left .profile .cause) ∷ []) [] ++ bytesOf beyond
+
+  places-are : answerOf line lent .places ≡ replyTo line ++ beyond
   unfolding answerOf repliedOf
   places-are = rw zero
 
-  reply-is : replyTo line ≡ hexOf (replyBytesOf (shaped (k .shape) line))
-  unfolding replyOf
-  reply-is = rw (k .asked, shaped-is (k .shape) line)
+  reply-first : (b : Bool) (l : List ℕ)
+      → bytesOf (hexOf (replyOf (cond b (OfCauses (k .shape)) (OfShape (k .shape))) at) ++ l)
+      ≡ replyBytesOf left ++ (cond b (left .profile .calls ∷ causeNumber (left .profile .cause) ∷ []) [] ++ bytesOf l)
+  unfolding replyOf causesBytesOf
+  reply-first true l =
+      bytes-first (replyOf (OfCauses (k .shape)) at) l (reply-of-bytes (OfCauses (k .shape)) at)
+      ∙ rw (shaped-is (k .shape) line) (append-assoc (replyBytesOf left) _ (bytesOf l))
+  reply-first false l =
+      bytes-first (replyOf (OfShape (k .shape)) at) l (reply-of-bytes (OfShape (k .shape)) at)
+      ∙ rw (shaped-is (k .shape) line)
 
-  pub bytes-are : bytesOf (answerOf line lent .places) ≡ replyBytesOf (shaped (k .shape) line) ++ bytesOf rest
+  pub bytes-are : bytesOf (answerOf line lent .places) ≡ replyBytesOf left ++ rest
   bytes-are =
       ap (λ (r : List ℕ). bytesOf r) places-are
-      ∙ ap (λ (r : List ℕ). bytesOf (r ++ rest)) reply-is
-      ∙ bytes-first (replyBytesOf (shaped (k .shape) line)) rest (reply-bytes (shaped (k .shape) line))
+      ∙ ap (λ (asks : Asks). bytesOf (hexOf (replyOf asks at) ++ beyond)) (k .asked)
+      ∙ reply-first (k .causes) beyond

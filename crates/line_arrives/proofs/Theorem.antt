@@ -47,7 +47,7 @@ module _ (line lent : List ℕ) (none : answerOf line lent .number ≡ 0) (k : A
   q = shaped (k .shape) line .profile
 
   abbrev beyond : List ℕ
-  beyond = bytesOf (rest line lent none k)
+  beyond = rest line lent none k
 
   read : bytesOf reply ≡ replyBytesOf (shaped (k .shape) line) ++ beyond
   read = bytes-are line lent none k

@@ -3,7 +3,7 @@
 -- The motion and the distances are those of crates/rounding/specs/Motion.antt and
 -- crates/profile_arrives/specs/Arrives.antt, in whole numbers.
 use mathlib.Core.Path.{_≡_}
-use mathlib.Core.Bool.{false}
+use mathlib.Core.Bool.{Bool, false, cond}
 use mathlib.Core.List.{List}
 use Prim.Native.Nat.{ℕ, suc, _+_, _*_, _^_, _≤_, _<_}
 use lib.Ieee.{Float}
@@ -17,7 +17,7 @@ use Rattle.step2_solver.specs.declared.Shape.{Shape}
 use Rattle.step2_arrives.specs.Moves.{MoveNumbers, Close, in-time}
 use Rattle.step2_times.specs.Facts.{roundings, residual}
 use Rattle.hex.specs.Hex.{bytesOf}
-use Rattle.line_kinds.specs.declared.Asks.the-variants.{OfShape}
+use Rattle.line_kinds.specs.declared.Asks.the-variants.{OfShape, OfCauses}
 use Rattle.line_kinds.specs.Kinds.{rowOf}
 use Rattle.line_frame.specs.Frame.{byteAt, numberAt}
 use Rattle.line_frame.specs.Numbers.{moveOf}
@@ -30,9 +30,11 @@ abbrev pub numberIn : List ℕ → ℕ → Float
 numberIn characters i = numberAt (byteAt (bytesOf characters)) i
 
 -- ---- the line: what its kind asks, and its twelve numbers
+-- kinds 01 to 05; and 11 to 15, with count and cause
 pub record AsksShape (line : List ℕ) : Type 0 where
   pub shape : Shape
-  pub asked : rowOf (byteIn line 0) .asks ≡ OfShape shape
+  pub causes : Bool
+  pub asked : rowOf (byteIn line 0) .asks ≡ cond causes (OfCauses shape) (OfShape shape)
 
 abbrev pub moveIn : List ℕ → Move
 moveIn line = moveOf (byteAt (bytesOf line))

@@ -2,7 +2,7 @@
 -- answer is 0, whose reply says yes by this attempt and is within the sizes; and so it arrives.
 -- Computed; assumes nothing.
 use mathlib.Core.Path.{_≡_, refl}
-use mathlib.Core.Bool.{Bool}
+use mathlib.Core.Bool.{Bool, false}
 use mathlib.Core.List.{List, [], _∷_}
 use Prim.Native.Nat.{ℕ}
 use lib.Dec.{T}
@@ -16,8 +16,8 @@ use Rattle.jerks.specs.Jerks.{jerksOf}
 use Rattle.positive_set.specs.Set.{holds, insertOf, insertAllOf, intoOf, sortedOf}
 use Rattle.roots.specs.Quartic.{needOf, factorsOf, quadraticOf, withoutCdOf, withCbrtOf, resolvedOf, offeredOf, rootsOf}
 use Rattle.phases.specs.Run.{run}
-use Rattle.phases.specs.Times.{sumStep, sumsOf, refusedOf}
-use Rattle.limits.specs.Limits.{bandOf, arrivedOf, keptOf}
+use Rattle.phases.specs.Times.{sumStep, sumsOf, labelTests}
+use Rattle.limits.specs.Limits.{bandOf, accelerationsKept, velocitiesKept, endTests}
 use Rattle.phases.specs.Phase.{replacedOf, zeroInsideOf, nodeOf, phaseOf}
 use Rattle.profile.specs.Check.{checkOf}
 use Rattle.profile.specs.Boundary.{boundaryOf}
@@ -81,7 +81,7 @@ worked attempt line m =
     let number = number-0 line answer k (m .1) in
     let says = says-yes line answer k (m .1) in
     let sizes = sizes-met line answer k (m .1) in
-    let asks : AsksShape line = record { shape = shapeBy attempt; asked = m .0 } in
+    let asks : AsksShape line = record { shape = shapeBy attempt; causes = false; asked = m .0 } in
     record {
       number = number;
       says = says;
@@ -120,7 +120,8 @@ owns =
 all-own : T (all owns)
 unfolding isNan ofBits toBits lt le eq neg add sub mul div absOf integrateOf sqrtOf holds insertOf insertAllOf intoOf
     sortedOf needOf factorsOf quadraticOf withoutCdOf withCbrtOf resolvedOf offeredOf rootsOf testsOf jerksOf run
-    sumStep sumsOf refusedOf bandOf replacedOf zeroInsideOf nodeOf phaseOf arrivedOf keptOf checkOf boundaryOf newOf
+    sumStep sumsOf labelTests bandOf replacedOf zeroInsideOf nodeOf phaseOf accelerationsKept velocitiesKept endTests
+    checkOf boundaryOf newOf
     acc0Acc1VelUdduApplies acc0Acc1VelUdduRadicand acc0Acc1VelUdduH1 acc0Acc1VelUdduT1 acc0Acc1VelUdduTimes
     acc0Acc1VelUddu acc0Acc1VelUdudApplies acc0Acc1VelUdudT1 acc0Acc1VelUdudT3 acc0Acc1VelUdudTimes acc0Acc1VelUdud
     acc1VelTMin acc1VelUdduPolynom acc1VelUdduTMax acc1VelUdduOrig acc1VelUdduDeriv acc1VelUdduNewton acc1VelUdduH1
