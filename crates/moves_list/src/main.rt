@@ -1,6 +1,6 @@
 // `check`, the five shapes and their quartics by value, on a stored list of accepted lines, kinds 00 to 07 of
-// document 01: the reply of each. The list is made by oracle/lists.sh, seed 1: its lists kind00 and shapes, one after
-// the other, with the oracle's replies.
+// document 01 and 11 to 15 of document 02: the reply of each. The list is made by oracle/lists.sh, seed 1: its lists
+// kind00, shapes and causes, one after the other, with the oracle's replies.
 use hex::decode;
 use labels::label;
 use labels::signs;
@@ -10,11 +10,13 @@ use line_frame::first_answer;
 use line_frame::move_numbers;
 use line_frame::second_answer;
 use line_kinds::Asks;
+use line_kinds::CAUSES;
 use line_kinds::FRAME;
 use line_kinds::LINE;
 use line_kinds::QUARTICS;
 use line_kinds::RECORD;
 use line_kinds::row_of;
+use line_reply::write_causes;
 use line_reply::write_quartics;
 use line_reply::write_record;
 use position_third_step2::time_acc0;
@@ -25,19 +27,29 @@ use position_third_step2::time_acc1_vel;
 use profile::Checked;
 use profile::Profile;
 use profile::in_place::Verdict;
-use roots::RootAnswer;
 use step2_quartics::quartics_of;
 use step2_solver::Move;
 use step2_solver::Shape;
 
-fn send_record(c: Checked) -> bool {
+fn verdict(c: Checked) -> Verdict {
     let q = c.profile;
-    let answer = Verdict {
+    Verdict {
         ok: c.ok,
         labels: q.labels(),
-    };
+    }
+}
+
+fn send_record(c: Checked) -> bool {
+    let q = c.profile;
     let mut reply = [0u8; RECORD];
-    write_record(&mut reply, answer, &q.row());
+    write_record(&mut reply, verdict(c), &q.row());
+    io::write_all(1, &reply)
+}
+
+fn send_causes(c: Checked) -> bool {
+    let q = c.profile;
+    let mut reply = [0u8; CAUSES];
+    write_causes(&mut reply, verdict(c), &q.row());
     io::write_all(1, &reply)
 }
 
@@ -66,7 +78,10 @@ fn checked(frame: &[u8; FRAME], x: CheckNumbers) -> Checked {
     )
 }
 
-fn tried(shape: Shape, x: Move, first: RootAnswer, second: RootAnswer) -> Checked {
+fn tried(shape: Shape, frame: &[u8; FRAME]) -> Checked {
+    let x = move_numbers(frame).x;
+    let first = first_answer(frame);
+    let second = second_answer(frame);
     let s = x.solver();
     let q = Profile::default().set_boundary(x.p0, x.v0, x.a0, x.pf, x.vf, x.af);
     match shape {
@@ -102,15 +117,9 @@ fn send_reply(asks: Asks, frame: &[u8; FRAME]) -> bool {
     match asks {
         Asks::NoKind => false,
         Asks::OfCheck => send_record(checked(frame, check_numbers(frame).x)),
-        Asks::OfShape(shape) => {
-            send_record(tried(
-                shape,
-                move_numbers(frame).x,
-                first_answer(frame),
-                second_answer(frame),
-            ))
-        }
+        Asks::OfShape(shape) => send_record(tried(shape, frame)),
         Asks::OfQuartics(shape) => send_quartics(shape, move_numbers(frame).x),
+        Asks::OfCauses(shape) => send_causes(tried(shape, frame)),
     }
 }
 

@@ -1,6 +1,7 @@
 // Functions of `profile`, `profile_lent` and `float` that no line reaches, on a stored list. A line is the bytes of a
 // kind 00 frame with j_max and tf after them, its first byte saying what is called: 00 the three lent functions one
 // after the other, 01 `check_with_timing`, 02 `check_with_timing_full`; or 03 and a number, for `is_finite`.
+// A record is answered with the count of its calls of `check` and the cause of the last one after it.
 // The list is made by oracle/lists.sh, seed 1, with what the Rust answers.
 use digits::byte_to_digits;
 use digits::from_digits;
@@ -12,9 +13,9 @@ use labels::label;
 use labels::signs;
 use line_frame::CheckNumbers;
 use line_frame::check_numbers;
+use line_kinds::CAUSES;
 use line_kinds::FRAME;
-use line_kinds::RECORD;
-use line_reply::write_record;
+use line_reply::write_causes;
 use profile::Checked;
 use profile::Profile;
 use profile::in_place::Verdict;
@@ -33,8 +34,8 @@ fn send_record(c: Checked) -> bool {
         ok: c.ok,
         labels: q.labels(),
     };
-    let mut reply = [0u8; RECORD];
-    write_record(&mut reply, answer, &q.row());
+    let mut reply = [0u8; CAUSES];
+    write_causes(&mut reply, answer, &q.row());
     io::write_all(1, &reply)
 }
 
