@@ -13,7 +13,29 @@ extern "C" {
 #define SIPTKVARO_LONGEST_LINE 296
 
 /* The longest reply, in places: lent as many, no line is answered with 8. */
-#define SIPTKVARO_LONGEST_REPLY 728
+#define SIPTKVARO_LONGEST_REPLY 732
+
+/* Replies to kinds 11 to 15 hex: the places of the count of the shape's calls of `check`
+ * and of the cause of the last one, two digits each. */
+#define SIPTKVARO_CALLS 728
+#define SIPTKVARO_CAUSE 730
+
+/* The first test of that call that failed, in the order in which they are made. */
+enum siptkvaro_cause {
+    SIPTKVARO_YES = 0,
+    SIPTKVARO_NEGATIVE_TIME = 1,
+    SIPTKVARO_T3 = 2, /* t[3], t[1], t[5]: too short for the label */
+    SIPTKVARO_T1 = 3,
+    SIPTKVARO_T5 = 4,
+    SIPTKVARO_TOTAL = 5,
+    SIPTKVARO_VELOCITY_AT_ZERO_ACCELERATION = 6,
+    SIPTKVARO_END_POSITION = 7,
+    SIPTKVARO_END_VELOCITY = 8,
+    SIPTKVARO_END_ACCELERATION = 9,
+    SIPTKVARO_ACCELERATION_LIMIT = 10,
+    SIPTKVARO_VELOCITY_LIMIT = 11,
+    SIPTKVARO_NO_CALL = 12
+};
 
 /*
  * Answers one line: `request` holds its characters, without the line feed, and
