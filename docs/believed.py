@@ -30,12 +30,21 @@ LISTS = [
                       ("line_stream/Whole", "proofs", "whole-blocks"), ("line_stream/Whole", "proofs", "whole")],
      ["demand 1"], ["replyOf"]),
     ("demand 2", [("lines", "src", "answer_line"), ("lines", "src", "answered")], ["demand 1"], []),
+    ("paper 1", [("profile/Causes", "proofs", "in-order"), ("profile/Causes", "proofs", "yes-is-cause"),
+                 ("profile/Causes", "proofs", "one-call-more"), ("profile/Causes", "proofs", "a-call-has-a-cause"),
+                 ("profile/Causes", "proofs", "apart"), ("step2_attempt/Calls", "proofs", "tried-apart"),
+                 ("position_third_step2/Calls", "proofs", "shape-calls"),
+                 ("position_third_step2/Calls", "proofs", "few-calls"),
+                 ("position_third_step2/Calls", "proofs", "shape-verdict"),
+                 ("position_third_step2/Calls", "proofs", "no-call"),
+                 ("position_third_step2/Calls", "proofs", "some-call"),
+                 ("line_places/ActsAs", "proofs", "acts-as")], ["demand 1", "demand 2"], []),
     ("demand 3", [("line_arrives/Theorem", "proofs", "yes-arrives"),
                   ("line_arrives/Theorem", "proofs", "yes-arrives-closely")], ["demand 1", "demand 2"], []),
     ("other theorems", [("sqrt/Nearest", "proofs", "sqrt-nearest"), ("float/Halving", "proofs", "halving"),
                         ("marked_moves/Table", "proofs", "marked-moves"),
                         ("worked_lines/Worked", "proofs", "worked-arrive")],
-     ["demand 1", "demand 2", "demand 3"], []),
+     ["demand 1", "demand 2", "paper 1", "demand 3"], []),
 ]
 
 def read(path):
