@@ -56,9 +56,9 @@ copy() {
         "$here/src/lib.rs" -o "$copy/liboracle.rlib"
 }
 
-# `plain` is the oracle. `traced` also reports which tests refused and what the quartics
-# were given, so it answers the kinds that ask for causes; the self-test compares the two
-# line by line.
+# `plain` is the oracle. `traced` also reports which tests refused, which square roots do not
+# exist and what the quartics were given, so it answers the kinds that ask for causes; the
+# self-test compares the two line by line.
 copy traced
 copy plain -L dependency="$out/traced" --extern traced="$out/traced/liboracle.rlib"
 

@@ -49,6 +49,14 @@ impl Attempt {
     pub fn calls_so(&self, shape: Shape, signs: u8, label: u8) -> bool {
         (self.shape, self.signs, self.label) == (shape, signs, label)
     }
+
+    /// Whether it takes a square root of its own. Those of quartics are no attempt's.
+    pub fn takes_root(&self) -> bool {
+        matches!(
+            self.form,
+            Acc0Acc1VelUddu | Acc0Acc1Uddu | Acc0UdudNone | Acc0UdduNone | Acc0UdduAcc0
+        )
+    }
 }
 
 /// Which attempt called `check` so. The fourth shape's two call it alike; the one of

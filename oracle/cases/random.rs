@@ -17,6 +17,11 @@ impl Random {
         Random { state }
     }
 
+    /// Another row of numbers, which leaves this one where it is.
+    pub fn aside(&self) -> Self {
+        Random::new(self.state[0])
+    }
+
     pub fn bits(&mut self) -> u64 {
         let [a, b, c, d] = self.state;
         let answer = b.wrapping_mul(5).rotate_left(7).wrapping_mul(9);

@@ -6,7 +6,7 @@ use crate::numbers::{any_finite, blur, edge, near, ordinary, quarters};
 use crate::quartic::suited_answer;
 use crate::random::Random;
 use crate::{many_roots, needs};
-use oracle::kinds::{Kind, Shape};
+use oracle::kinds::{Asks, Kind, Shape};
 use oracle::{quartics, shapes};
 
 /// An accepted line of the kind, which asks of the shape.
@@ -17,7 +17,10 @@ pub fn write(random: &mut Random, kind: &Kind, shape: Shape, line: &mut Line) {
     if kind.replies_causes() && kind.has_answers() && random.once_in(16) {
         return many_roots::write(random, shape, line);
     }
-    let numbers = numbers(random, shape);
+    let numbers = match kind.asks {
+        Asks::Causes(Shape::Acc0) => sometimes_tiny(random.aside(), numbers(random, shape)),
+        _ => numbers(random, shape),
+    };
     line.numbers(&numbers);
     if kind.has_answers() {
         let solver = shapes::solver(&numbers);
@@ -44,6 +47,17 @@ fn numbers(random: &mut Random, shape: Shape) -> [f64; 12] {
     };
     let numbers = if random.once_in(2) { mirror(numbers) } else { numbers };
     numbers.map(|number| if number.is_finite() { number } else { 1.0 })
+}
+
+/// Once in sixteen times in a unit of length so small that whatever is missed is within the
+/// precision of `check` and the cubes of accelerations are 0. An attempt may say yes then
+/// where the one before it had no root. Other lines than these stay what they were.
+fn sometimes_tiny(mut random: Random, numbers: [f64; 12]) -> [f64; 12] {
+    if !random.once_in(16) {
+        return numbers;
+    }
+    let length = power(&mut random, -250.0, -190.0);
+    in_units(numbers, length, 1.0)
 }
 
 fn planned(random: &mut Random, shape: Shape) -> [f64; 12] {

@@ -32,7 +32,8 @@ fn main() {
     write("brake.rs", read("brake.rs"));
     write("util.rs", read("util.rs"));
     write("roots.rs", roots::edit(&read("roots.rs")));
-    write("position_third_step2.rs", step2::edit(&read("position_third_step2.rs")));
+    let step2 = step2::edit(&read("position_third_step2.rs"));
+    write("position_third_step2.rs", if traced { step2::trace(&step2) } else { step2 });
     let profile = read("profile.rs");
     write("profile.rs", if traced { profile::trace(&profile) } else { profile });
 }

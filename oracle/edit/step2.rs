@@ -1,19 +1,71 @@
 //! `position_third_step2.rs`: the five shapes become public, and the lines that
 //! work out the four quartics become functions of their own, because a line asks
-//! for both quartics even where the shape stops before the second.
+//! for both quartics even where the shape stops before the second. In the traced copy the
+//! square roots of the shapes tell what they are taken of.
 
 use crate::text::{after, between, fail, replace};
 
-const SHAPES: [&str; 5] =
-    ["time_acc0_acc1_vel", "time_acc1_vel", "time_acc0_vel", "time_acc0_acc1", "time_acc0"];
+/// A square root: how its argument begins, and the signs and the label of the attempt that
+/// takes it.
+struct Root {
+    argument: &'static str,
+    signs: &'static str,
+    label: &'static str,
+}
+
+/// The five shapes, each with its roots in the order of the text.
+const SHAPES: [(&str, &[Root]); 5] = [
+    (
+        "time_acc0_acc1_vel",
+        &[Root { argument: "(self.a0_p4 + self.af_p4", signs: "UDDU", label: "Acc0Acc1Vel" }],
+    ),
+    ("time_acc1_vel", &[]),
+    ("time_acc0_vel", &[]),
+    ("time_acc0_acc1", &[Root { argument: "144.0", signs: "UDDU", label: "Acc0Acc1" }]),
+    (
+        "time_acc0",
+        &[
+            Root { argument: "self.ad_ad / (2.0", signs: "UDUD", label: "None" },
+            Root { argument: "4.0 * h0b * h0b - 18.0", signs: "UDDU", label: "None" },
+            Root { argument: "4.0 * h0a * h0a - 18.0", signs: "UDDU", label: "Acc0" },
+        ],
+    ),
+];
 
 pub fn edit(source: &str) -> String {
     let mut text = source.to_string();
-    for shape in SHAPES {
+    for (shape, _) in SHAPES {
         let header = format!("    fn {shape}(\n");
         text = replace(&text, &header, &format!("    pub fn {shape}(\n"), 1);
     }
     text + &polynoms(source)
+}
+
+/// For the traced copy, after `edit`.
+pub fn trace(edited: &str) -> String {
+    let mut text = edited.to_string();
+    for (shape, roots) in SHAPES {
+        let lines = between(edited, &format!("    pub fn {shape}(\n"), "\n    }\n");
+        text = replace(&text, lines, &trace_roots(shape, lines, roots), 1);
+    }
+    text
+}
+
+fn trace_roots(shape: &str, lines: &str, roots: &[Root]) -> String {
+    let parts: Vec<&str> = lines.split("f64::sqrt(").collect();
+    if parts.len() != roots.len() + 1 || lines.matches("sqrt").count() != roots.len() {
+        fail(&format!("{shape} does not take {} square roots", roots.len()));
+    }
+    let mut text = parts[0].to_string();
+    for (Root { argument, signs, label }, part) in roots.iter().zip(&parts[1..]) {
+        let call: String = after(part, "check_with_timing(").split_whitespace().collect();
+        let so = call.starts_with(&format!("ControlSigns::{signs},ReachedLimits::{label},"));
+        if !so || !part.trim_start().starts_with(argument) {
+            fail(&format!("{shape} does not take a root of {argument:?} for {signs} {label}"));
+        }
+        text += &format!("crate::trace::root({part}");
+    }
+    text
 }
 
 fn polynoms(source: &str) -> String {

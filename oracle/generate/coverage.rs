@@ -1,12 +1,17 @@
 //! Counts what came up, by asking the oracle for each line.
 
+use crate::marks::Marks;
 use cases::attempt::{at_rest, index_of_call};
 use cases::kinds::{Kind, COUNT};
 use oracle::quartics::{need, polynoms};
 use oracle::{answer, answer_line, digits, frame, shapes};
 use rsruckig::trace;
 
+/// A yes, and those of the tests of `check`.
 pub const CAUSES: usize = 12;
+
+/// These, no call, and no root.
+pub const LASTS: usize = CAUSES + 2;
 
 /// A yes, and the tests in the text of `check`.
 pub const TESTS: usize = 25;
@@ -24,6 +29,8 @@ pub struct Coverage {
     pub attempts: [[u64; CAUSES]; 11],
     /// The yeses by attempt and direction.
     pub directions: [[u64; 2]; 11],
+    /// The square roots of kinds 11 to 15 by attempt.
+    pub marks: [Marks; 11],
     /// Accepted root answers by need and count.
     pub counts: [[u64; 4]; 3],
     kinds: [OfKind; COUNT],
@@ -34,8 +41,8 @@ pub struct Coverage {
 pub struct OfKind {
     /// Lines by how many calls of `check` their shape made.
     pub calls: [u64; 9],
-    /// Lines of kinds 11 to 15 by the cause of the last call, 12 where there was none.
-    pub lasts: [u64; CAUSES + 1],
+    /// Lines of kinds 11 to 15 by the cause in the reply.
+    pub lasts: [u64; LASTS],
     /// Replies by verdict, label, direction and signs.
     pub records: [[[[u64; 2]; 2]; 8]; 2],
     /// Lines with two quartics by signs and need.
@@ -93,10 +100,13 @@ impl Coverage {
             of_kind.lasts[calls[1] as usize] += 1;
         }
         let numbers: [f64; 12] = frame::numbers(bytes, frame::NUMBERS);
-        for check in &checks[..count] {
+        for (turn, check) in checks[..count].iter().enumerate() {
             let index = index_of_call(shape, check.signs, check.label, at_rest(&numbers));
             self.attempts[index][check.cause as usize] += 1;
             self.directions[index][direction] += (check.cause == 0) as u64;
+            if kind.replies_causes() {
+                self.marks[index].add(check, turn + 1 == count, &checks[count - 1]);
+            }
         }
     }
 

@@ -2,8 +2,10 @@
 //! the reasons below are wrong.
 
 use crate::coverage::{Coverage, CAUSES};
+use crate::marks::ARGUMENTS;
 use cases::attempt::{Attempt, Form, ATTEMPTS};
 use cases::kinds::{Asks, Kind, Shape, KINDS};
+use rsruckig::trace::{NO_CALL, NO_ROOT};
 
 /// What is missing, and what should not have come up.
 #[derive(Default)]
@@ -19,6 +21,7 @@ pub fn faults(coverage: &Coverage) -> Faults {
     }
     faults.checks(coverage);
     faults.attempts(coverage);
+    faults.marks(coverage);
     for kind in KINDS.iter().filter(|kind| kind.replies_record()) {
         faults.records(coverage, kind);
     }
@@ -87,6 +90,29 @@ impl Faults {
             for direction in 0..2 {
                 let count = coverage.directions[index][direction];
                 self.hold(true, count, format!("{form:?}, yes, direction {direction}"));
+            }
+        }
+    }
+
+    fn marks(&mut self, coverage: &Coverage) {
+        for (attempt, marks) in ATTEMPTS.iter().zip(&coverage.marks) {
+            let form = attempt.form;
+            for (of, count) in ARGUMENTS.iter().zip(marks.arguments) {
+                self.hold(attempt.takes_root(), count, format!("{form:?}, root of {of}"));
+            }
+            for (cause, count) in marks.causes.iter().enumerate() {
+                let can = marked_has(attempt, cause);
+                self.hold(can, *count, format!("{form:?}, marked, cause {cause} but for that"));
+            }
+            for (argument, count) in marks.lasts.iter().enumerate() {
+                let can = argument > 0 && mark_is_last(attempt);
+                let of = ARGUMENTS[argument];
+                self.hold(can, *count, format!("{form:?}, marked by {of} as last call"));
+            }
+            for (verdict, count) in marks.earlier.iter().enumerate() {
+                let can = mark_is_earlier(attempt);
+                let name = format!("{form:?}, marked, last call not marked, verdict {verdict}");
+                self.hold(can, *count, name);
             }
         }
     }
@@ -176,6 +202,34 @@ fn attempt_has(attempt: &Attempt, cause: usize) -> bool {
     label_has(attempt.label, cause) && !rest
 }
 
+/// What a mark stands ahead of. A root that does not exist is NaN, and so are the times that it
+/// goes into. None of those is below zero or too short, and the total is NaN as well. From
+/// there on every velocity is NaN, which no limit forbids (cause 6), and so is the last
+/// position (cause 7), unless another time is below zero (cause 1). The second attempt of the
+/// fourth shape has no such time: its jerk is NaN, and each time but t[3], which is 0, is
+/// divided by that.
+fn marked_has(attempt: &Attempt, cause: usize) -> bool {
+    attempt.takes_root()
+        && match cause {
+            1 => attempt.form != Form::Acc0Acc1Uddu,
+            7 => true,
+            _ => false,
+        }
+}
+
+/// After a no the fifth shape goes on to its third attempt whatever becomes of the others.
+/// The second of the first shape may be passed over.
+fn mark_is_last(attempt: &Attempt) -> bool {
+    attempt.takes_root() && !matches!(attempt.form, Form::Acc0UdudNone | Form::Acc0UdduNone)
+}
+
+/// Where an attempt may follow. The first of the fifth shape has no root only where the motions
+/// of the other two do not exist either; they say yes all the same to a move so small that
+/// nothing is missed by it (`shape_line`'s `sometimes_tiny`).
+fn mark_is_earlier(attempt: &Attempt) -> bool {
+    matches!(attempt.form, Form::Acc0Acc1VelUddu | Form::Acc0UdudNone | Form::Acc0UdduNone)
+}
+
 /// A yes has the label and signs of the attempt that said it. After a no they are
 /// those of the last attempt that got past the phases, or the default None and
 /// UDDU, where the direction may be set all the same (cause 6). A kind 00 line that
@@ -215,12 +269,16 @@ fn count_comes_up(shape: Shape, count: usize) -> bool {
 }
 
 /// After a no the last call was made with the label of the shape's last attempt: the fifth
-/// shape gets to its third attempt, and in the other shapes all have the same label.
+/// shape gets to its third attempt, and in the other shapes all have the same label. The second
+/// shape and the third take no square root but in their quartics.
 fn last_comes_up(shape: Shape, cause: usize) -> bool {
-    let last = ATTEMPTS.iter().rfind(|attempt| attempt.shape == shape).expect("a last attempt");
+    const CALL: usize = NO_CALL as usize;
+    const ROOT: usize = NO_ROOT as usize;
+    let mut attempts = ATTEMPTS.iter().filter(|attempt| attempt.shape == shape);
     match cause {
-        CAUSES => count_comes_up(shape, 0),
-        _ => attempt_has(last, cause),
+        CALL => count_comes_up(shape, 0),
+        ROOT => attempts.any(mark_is_last),
+        _ => attempt_has(attempts.last().expect("a last attempt"), cause),
     }
 }
 

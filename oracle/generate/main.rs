@@ -10,6 +10,7 @@
 mod arrivals;
 mod coverage;
 mod expected;
+mod marks;
 mod table;
 
 use cases::any_line;

@@ -1,6 +1,7 @@
 //! The coverage as a table to read.
 
 use crate::coverage::{Coverage, TESTS};
+use crate::marks::{Marks, ARGUMENTS};
 use cases::attempt::ATTEMPTS;
 use cases::kinds::{Asks, Kind, KINDS};
 use std::fmt::{Result, Write};
@@ -40,6 +41,7 @@ pub fn text(coverage: &Coverage) -> String {
         writeln!(text, "replies, then refusals 1 to 8 {:?}", coverage.refusals)?;
         checks(coverage, text)?;
         attempts(coverage, text)?;
+        marks(coverage, text)?;
         records(coverage, &KINDS, text)?;
         quartics(coverage, text)?;
         classes(coverage, &KINDS, text)
@@ -100,9 +102,23 @@ fn attempts(coverage: &Coverage, text: &mut String) -> Result {
     for kind in KINDS.iter().filter(|kind| kind.shape().is_some()) {
         writeln!(text, "  {:02X} {:?}", kind.number, coverage.of(kind).calls)?;
     }
-    writeln!(text, "lines by the cause of the last call of check, 0 to 12")?;
+    writeln!(text, "lines by the cause of the last call of check, 0 to 13")?;
     for kind in KINDS.iter().filter(|kind| kind.replies_causes()) {
         writeln!(text, "  {:02X} {:?}", kind.number, coverage.of(kind).lasts)?;
+    }
+    Ok(())
+}
+
+fn marks(coverage: &Coverage, text: &mut String) -> Result {
+    writeln!(text, "kinds 11 to 15: square roots by attempt; of {}", ARGUMENTS.join(", of "))?;
+    let taken = || ATTEMPTS.iter().zip(&coverage.marks).filter(|(attempt, _)| attempt.takes_root());
+    for (attempt, marks) in taken() {
+        writeln!(text, "  {:?} {:?}", attempt.form, marks.arguments)?;
+    }
+    writeln!(text, "calls marked for want of a root; by cause 0 to 11 but for the mark; as last")?;
+    writeln!(text, "by argument; in front of a last call that is not marked and says no, yes")?;
+    for (attempt, Marks { causes, lasts, earlier, .. }) in taken() {
+        writeln!(text, "  {:?} {causes:?} {lasts:?} {earlier:?}", attempt.form)?;
     }
     Ok(())
 }

@@ -1,7 +1,8 @@
-//! Published square-root vectors: the real ones in CPython's cmath_testcases.txt.
-//! Debian has the file in libpython3.11-testsuite.
+//! Published square-root vectors: the real ones in CPython's cmath_testcases.txt, as lines of
+//! the list of square roots. Debian has the file in libpython3.11-testsuite.
 
-use crate::{bits, Lists};
+use crate::sqrt::push_root;
+use crate::Lists;
 use std::fs;
 
 const FILE: &str = "/usr/lib/python3.11/test/cmath_testcases.txt";
@@ -28,6 +29,6 @@ pub fn fill(lists: &mut Lists) {
             real.sqrt().to_bits() == root.to_bits() || root.is_nan() && real.is_nan(),
             "the file's root of {real} is not the nearest f64"
         );
-        lists.push(&bits(real), &bits(root));
+        push_root(lists, real, root);
     }
 }

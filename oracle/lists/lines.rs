@@ -8,7 +8,8 @@ use cases::line::Line;
 use cases::random::Random;
 use cases::{any_line, broken_line};
 use oracle::{digits, frame};
-use rsruckig::{hand_in, trace};
+use rsruckig::hand_in;
+use rsruckig::trace::{self, Check};
 use std::collections::BTreeMap;
 
 /// Enough to meet every case that the generator's coverage asks for.
@@ -97,13 +98,16 @@ fn answer(request: &[u8]) -> Answered {
         let case = vec![reply[1], reply[kind.places / 2 + 1]];
         return Answered { group: vec![0, kind.number], case, reply };
     }
-    // By verdict; then by label, direction and signs, by the calls of `check` and
-    // the last of them, and by what kind 00 was asked or the quartics asked for.
+    // By verdict; then by label, direction and signs, by the calls of `check`, the last of
+    // them and their marks, and by what kind 00 was asked or the quartics asked for.
     let mut case = reply[2..8].to_vec();
     let (checks, calls) = trace::checks();
     case.push(calls as u8);
     if let Some(last) = calls.checked_sub(1).map(|index| checks[index]) {
         case.extend_from_slice(&[last.signs, last.label, last.cause]);
+        if kind.replies_causes() {
+            case.extend(marks(&checks[..calls]));
+        }
     }
     match kind.shape() {
         None => case.extend_from_slice(&request[2..8]),
@@ -114,6 +118,12 @@ fn answer(request: &[u8]) -> Answered {
         }
     }
     Answered { group: vec![0, kind.number, reply[1]], case, reply }
+}
+
+/// Which calls are marked for want of a square root, and whether the last is by a NaN.
+fn marks(checks: &[Check]) -> impl Iterator<Item = u8> + '_ {
+    let by_nan = checks.last().and_then(|last| last.argument).is_some_and(f64::is_nan);
+    checks.iter().map(|check| check.marked as u8).chain([by_nan as u8])
 }
 
 fn twelve(request: &[u8]) -> [f64; 12] {

@@ -1,9 +1,14 @@
 //! Functions that no line reaches. In: the bytes of a kind 00 frame with j_max and tf
 //! after them, the first byte saying what is called: 00 `set_boundary`, `check` and
 //! then `check_with_timing` on what `check` left, 01 `check_with_timing`, 02
+//! `check_with_timing_full`; 04, 05 and 06 the same, with a mark for `check_with_timing` or
 //! `check_with_timing_full`; or 03 and a number, for `is_finite`. Out: for each call the
 //! verdict and the record as in a line's reply, and as in those of kinds 11 to 15 how many
 //! calls of `check` this record has seen and the cause of the last one; or 00 or 01.
+//!
+//! A mark says that a square root of the attempt does not exist. The Rust has none, so what
+//! it alters is written here: the cause is 13 wherever the marked call says no, also where
+//! its jerk keeps it from `check`. All else is as without.
 
 use crate::{bits, Lists};
 use cases::any_line;
@@ -39,18 +44,60 @@ const EDGES: [u64; 16] = [
     0xFFFF_FFFF_FFFF_FFFF,
 ];
 
-/// By turns, half of them on lines that `check` says yes to.
+/// The first byte of a marked line is that of the same line without a mark and this.
+const MARKED: u8 = 4;
+
+/// By turns, half of them on lines that `check` says yes to, and the others on lines of each
+/// cause of a no.
 pub fn fill(lists: &mut Lists, random: &mut Random, count: usize) {
     for edge in EDGES {
         push_finite(lists, f64::from_bits(edge));
     }
+    let mut came_up = CameUp::default();
     while lists.count < count {
-        let yes = lists.count / 5 % 2 == 0;
-        match lists.count % 5 {
-            0 | 1 => push_record(lists, random, 0, yes),
-            2 => push_record(lists, random, 1, yes),
-            3 => push_record(lists, random, 2, yes),
-            _ => push_finite(lists, number(random)),
+        let turn = lists.count / 7;
+        let cause = if turn % 2 == 0 { 0 } else { 1 + (turn / 2 % 11) as u8 };
+        match (lists.count % 7) as u8 {
+            3 => push_finite(lists, number(random)),
+            what => came_up.add(what, push_record(lists, random, what, cause)),
+        }
+    }
+    came_up.report(count);
+}
+
+/// What the last call of a line came to, but for its mark: a cause of `check`, or no call.
+struct Outcome {
+    cause: u8,
+    kept_by_jerk: bool,
+}
+
+/// The lines that have to be among a thousand.
+const WANTED: [(&str, fn(u8, &Outcome) -> bool); 7] = [
+    ("02 kept from `check` by its jerk", |what, outcome| what == 2 && outcome.kept_by_jerk),
+    ("06 kept from `check` by its jerk", |what, outcome| what == 6 && outcome.kept_by_jerk),
+    ("04 with a yes", |what, outcome| what == 4 && outcome.cause == 0),
+    ("05 with a yes", |what, outcome| what == 5 && outcome.cause == 0),
+    ("06 with a yes", |what, outcome| what == 6 && outcome.cause == 0),
+    ("05 with a negative time", |what, outcome| what == 5 && outcome.cause == 1),
+    ("05 with another end position", |what, outcome| what == 5 && outcome.cause == 7),
+];
+
+#[derive(Default)]
+struct CameUp {
+    counts: [usize; WANTED.len()],
+}
+
+impl CameUp {
+    fn add(&mut self, what: u8, outcome: Outcome) {
+        for (total, (_, is_so)) in self.counts.iter_mut().zip(WANTED) {
+            *total += is_so(what, &outcome) as usize;
+        }
+    }
+
+    fn report(&self, count: usize) {
+        for ((name, _), total) in WANTED.iter().zip(self.counts) {
+            eprintln!("{total:>9} {name}");
+            assert!(total > 0 || count < 1000, "no line of {count}: {name}");
         }
     }
 }
@@ -120,13 +167,15 @@ impl Asked {
     }
 }
 
-fn push_record(lists: &mut Lists, random: &mut Random, what: u8, yes: bool) {
+fn push_record(lists: &mut Lists, random: &mut Random, what: u8, cause: u8) -> Outcome {
+    let called = what % MARKED;
     let mut line = Line::default();
     let asked = loop {
         any_line::accepted(random, Kind::asking(Asks::Check), &mut line);
         let asked = Asked::new(&line.characters);
-        let set_limits = what == 0 && asked.sets_limits();
-        if asked.check(&mut asked.profile(), set_limits) == yes {
+        trace::clear();
+        asked.check(&mut asked.profile(), called == 0 && asked.sets_limits());
+        if trace::last() == (1, cause) {
             break asked;
         }
     };
@@ -138,28 +187,25 @@ fn push_record(lists: &mut Lists, random: &mut Random, what: u8, yes: bool) {
     let mut profile = asked.profile();
     trace::clear();
     let mut output = Vec::new();
-    match what {
-        0 => {
-            let ok = asked.check(&mut profile, asked.sets_limits());
-            write(ok, &profile, &mut output);
-            let again = asked.check_with_timing(&mut profile);
-            write(again, &profile, &mut output);
-        }
-        1 => {
-            let ok = asked.check_with_timing(&mut profile);
-            write(ok, &profile, &mut output);
-        }
-        _ => {
-            let ok = asked.check_full(&mut profile, j_max, tf);
-            write(ok, &profile, &mut output);
-        }
+    if called == 0 {
+        let yes = asked.check(&mut profile, asked.sets_limits());
+        write(yes, false, &profile, &mut output);
     }
+    let yes = match called {
+        2 => asked.check_full(&mut profile, j_max, tf),
+        _ => asked.check_with_timing(&mut profile),
+    };
+    write(yes, what >= MARKED, &profile, &mut output);
     lists.push_bytes(&line.characters, &output);
+    let (count, cause) = trace::last();
+    Outcome { cause, kept_by_jerk: count == 0 }
 }
 
-fn write(yes: bool, profile: &Profile, output: &mut Vec<u8>) {
+fn write(yes: bool, marked: bool, profile: &Profile, output: &mut Vec<u8>) {
+    let (count, cause) = trace::last();
+    let cause = if marked && !yes { trace::NO_ROOT } else { cause };
     let mut places = [0; frame::CAUSES_PLACES];
-    causes::write(yes, profile, &mut places);
+    causes::write_calls(yes, profile, (count, cause), &mut places);
     output.extend_from_slice(&places);
 }
 

@@ -1,4 +1,5 @@
-//! Square roots: a number a line in, its root a line out.
+//! Square roots: a number a line in, its root and the mark a line out. The mark is 01 where
+//! the number is below zero or NaN, and 00 where it has a root, as -0 has.
 
 use crate::{bits, written, Lists};
 use cases::numbers::{any_finite, step};
@@ -30,7 +31,7 @@ const SPECIALS: [u64; 22] = [
 ];
 
 pub fn fill(lists: &mut Lists, random: &mut Random, count: usize) {
-    let mut push = |number: f64| lists.push(&bits(number), &written(number.sqrt()));
+    let mut push = |number: f64| push_root(lists, number, number.sqrt());
     for special in SPECIALS {
         push(f64::from_bits(special));
     }
@@ -42,8 +43,13 @@ pub fn fill(lists: &mut Lists, random: &mut Random, count: usize) {
         let number = any_finite(random);
         // Few below zero: they all give NaN.
         let number = if random.once_in(20) { number } else { number.abs() };
-        lists.push(&bits(number), &written(number.sqrt()));
+        push_root(lists, number, number.sqrt());
     }
+}
+
+pub fn push_root(lists: &mut Lists, number: f64, root: f64) {
+    let marked = number < 0.0 || number.is_nan();
+    lists.push(&bits(number), &format!("{}{:02X}", written(root), marked as u8));
 }
 
 /// Powers of two, their neighbours and a random number of the same exponent, in

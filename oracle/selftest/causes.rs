@@ -1,14 +1,16 @@
 //! Lines of kinds 11 to 15: the traced copy's reply begins with what the plain copy answers
 //! to the same line of kinds 01 to 05, and its last two bytes are what the trace holds, what
-//! the verdict allows, and what the record says when `check` is worked through once more.
+//! the verdict allows, and what the record says when `check` is worked through once more. The
+//! mark of a root that does not exist is held against the record too (marks.rs).
 
+use crate::marks;
 use cases::kinds::{Kind, Shape};
 use oracle::{answer, digits, frame};
 use rsruckig::trace;
 
-/// Whether the line is one that was accepted. It may be any line that begins as one of kinds
-/// 11 to 15 does.
-pub fn test(request: &[u8], lent: usize) -> bool {
+/// The cause, if the line is one that was accepted. It may be any line that begins as one of
+/// kinds 11 to 15 does.
+pub fn test(request: &[u8], lent: usize) -> Option<u8> {
     let mut places = [b'-'; frame::LONGEST_REPLY];
     let answer = answer(request, &mut places[..lent]);
     let mut shape_line = request.to_vec();
@@ -21,14 +23,13 @@ pub fn test(request: &[u8], lent: usize) -> bool {
     }
     assert_eq!(answer.err().unwrap_or(0), number);
     assert_eq!(places[..frame::RECORD_PLACES], wanted[..frame::RECORD_PLACES]);
-    match answer {
-        Ok(kind) => last_bytes(kind, request, &places),
-        Err(_) => assert!(places.iter().all(|place| *place == b'-')),
+    if answer.is_err() {
+        assert!(places.iter().all(|place| *place == b'-'));
     }
-    answer.is_ok()
+    answer.ok().map(|kind| last_bytes(kind, request, &places))
 }
 
-fn last_bytes(kind: &Kind, request: &[u8], places: &[u8]) {
+fn last_bytes(kind: &Kind, request: &[u8], places: &[u8]) -> u8 {
     let mut reply = [0; frame::CAUSES_PLACES / 2];
     assert!(digits::read(places, &mut reply));
     let [verdict, .., count, cause] = reply;
@@ -36,17 +37,27 @@ fn last_bytes(kind: &Kind, request: &[u8], places: &[u8]) {
     assert_eq!(cause == trace::NO_CALL, count == 0);
     let (checks, calls) = trace::checks();
     assert_eq!(calls, count as usize);
-    assert!(checks[..calls].last().is_none_or(|check| check.cause == cause));
+    let checks = &checks[..calls];
 
     let mut bytes = [0; frame::LONGEST];
     digits::read(request, &mut bytes);
+    let numbers: [f64; 12] = frame::numbers(&bytes, frame::NUMBERS);
     let shape = kind.shape().expect("a kind that runs a shape");
-    let again = worked_through(shape, count, &frame::numbers(&bytes, frame::NUMBERS), &reply);
-    assert_eq!(cause, again, "{}", String::from_utf8_lossy(request));
+    let by_tests = worked_through(shape, count, &numbers, &reply);
+    let text = String::from_utf8_lossy(request);
+    assert_eq!(checks.last().map_or(trace::NO_CALL, |check| check.cause), by_tests, "{text}");
+    marks::test(shape, &numbers, checks);
+    if checks.last().is_some_and(|check| check.marked) {
+        assert_eq!(cause, trace::NO_ROOT, "{text}");
+        marks::test_last(shape, count, &frame::numbers(&reply, 4));
+    } else {
+        assert_eq!(cause, by_tests, "{text}");
+    }
+    cause
 }
 
-/// The cause by the record that the last call left: it has the times that `check` was given
-/// and all that it worked out of them.
+/// The cause, but for a mark, by the record that the last call left: it has the times that
+/// `check` was given and all that it worked out of them.
 fn worked_through(shape: Shape, count: u8, asked: &[f64; 12], reply: &[u8]) -> u8 {
     let [.., pf, vf, af, v_max, v_min, a_max, a_min, _] = *asked;
     let record: [f64; 45] = frame::numbers(reply, 4);

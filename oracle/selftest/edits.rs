@@ -9,17 +9,24 @@ use cases::line::Line;
 use cases::random::Random;
 use oracle::quartics::{need, polynoms};
 use oracle::{answer, digits, frame, shapes};
-use rsruckig::hand_in;
 use rsruckig::roots::resolvent_arguments;
+use rsruckig::{hand_in, trace};
 
 const NUMBERS: [u8; 17] = [0, 1, 2, 2, 3, 3, 4, 5, 6, 7, 0x11, 0x12, 0x12, 0x13, 0x13, 0x14, 0x15];
 
-/// Returns how many quartics were compared, and how many lines had their causes tried.
-pub fn test(seed: u64, count: u64) -> (usize, usize) {
+/// How many quartics were compared, how many lines had their causes tried, and how many of
+/// those have the cause of a root that does not exist.
+#[derive(Default)]
+pub struct Tried {
+    pub quartics: usize,
+    pub causes: usize,
+    pub marked: usize,
+}
+
+pub fn test(seed: u64, count: u64) -> Tried {
     let mut random = Random::new(seed);
     let mut line = Line::default();
-    let mut compared = 0;
-    let mut tried = 0;
+    let mut tried = Tried::default();
     for _ in 0..count {
         let number = random.pick(&NUMBERS);
         let kind = Kind::numbered(number).expect("the number of a kind");
@@ -32,14 +39,16 @@ pub fn test(seed: u64, count: u64) -> (usize, usize) {
         assert_eq!(answer.err().unwrap_or(0), plain::answer_line(request, &mut untraced));
         assert_eq!(traced, untraced);
         if let Some(shape) = answer.ok().filter(|kind| kind.has_answers()).and_then(Kind::shape) {
-            compared += compare_quartics(shape, request);
+            tried.quartics += compare_quartics(shape, request);
         }
         if let [b'1', b'1'..=b'5', ..] = request[..] {
             let lent = random.pick(&[727, 728, 731, 732, 732, 732, 732, 732]);
-            tried += causes::test(request, lent) as usize;
+            let cause = causes::test(request, lent);
+            tried.causes += cause.is_some() as usize;
+            tried.marked += (cause == Some(trace::NO_ROOT)) as usize;
         }
     }
-    (compared, tried)
+    tried
 }
 
 fn compare_quartics(shape: Shape, request: &[u8]) -> usize {

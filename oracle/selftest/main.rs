@@ -1,10 +1,12 @@
-//! Tests the oracle itself: the moves that document 01 works through, and over a
-//! row of generated lines that the edits changed nothing but what they had to.
+//! Tests the oracle itself: the moves that document 01 works through, some whose square roots
+//! do not exist, and over a row of generated lines that the edits changed nothing but what
+//! they had to.
 //!
 //!   selftest SEED COUNT
 
 mod causes;
 mod edits;
+mod marks;
 mod moves;
 
 use std::env;
@@ -17,7 +19,9 @@ fn main() {
     };
     let moves = moves::test();
     println!("{moves} moves of document 01 hold");
-    let (quartics, causes) = edits::test(seed, count);
+    println!("{} moves with and without a root hold", marks::worked());
+    let edits::Tried { quartics, causes, marked } = edits::test(seed, count);
     println!("{count} lines answered alike, {quartics} quartics as taken out of the source");
-    println!("{causes} lines of kinds 11 to 15 as those of 01 to 05, their causes found again");
+    println!("{causes} lines of kinds 11 to 15 as those of 01 to 05, their causes found again,");
+    println!("{marked} of them for want of a root");
 }

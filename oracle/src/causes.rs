@@ -14,10 +14,19 @@ pub fn answer(bytes: &[u8; frame::LONGEST], places: &mut [u8]) -> u32 {
 }
 
 /// The record, and the calls since the trace was cleared.
-pub fn write(yes: bool, profile: &Profile, places: &mut [u8; frame::CAUSES_PLACES]) {
+fn write(yes: bool, profile: &Profile, places: &mut [u8; frame::CAUSES_PLACES]) {
+    write_calls(yes, profile, trace::last(), places);
+}
+
+/// The record, and a count of calls with the cause of the last one.
+pub fn write_calls(
+    yes: bool,
+    profile: &Profile,
+    (count, cause): (u8, u8),
+    places: &mut [u8; frame::CAUSES_PLACES],
+) {
     let (record, calls) = places.split_at_mut(frame::RECORD_PLACES);
     reply::write(yes, profile, record.try_into().unwrap());
-    let (count, cause) = trace::last();
     for (byte, pair) in [count, cause].into_iter().zip(calls.chunks_exact_mut(2)) {
         digits::write_byte(byte, pair.try_into().unwrap());
     }

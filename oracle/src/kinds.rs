@@ -24,7 +24,7 @@ pub enum Asks {
     Check,
     Shape(Shape),
     Quartics(Shape),
-    /// A shape, and which test of its last call of `check` said no.
+    /// A shape, with how often it calls `check` and the cause of the last call.
     Causes(Shape),
 }
 
