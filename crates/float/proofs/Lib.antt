@@ -1,3 +1,4 @@
--- The cases that the proofs of the functions share, and a fact about the operations.
+-- The cases that the proofs of the functions share, and facts about the operations.
 pub mod Cases
 pub mod Halving
+pub mod Nan
