@@ -12,7 +12,7 @@ ghost use Rattle.bench_labels.specs.Lent.{checkLentOf};
 pub extern "C" fn bench_square_root(x: f64) -> f64
     ensures { λ r. ⌜ r ≡ sqrtOf x ⌝ }
 {
-    sqrt::sqrt(x)
+    sqrt::sqrt_unmarked(x)
 }
 
 #[no_mangle]

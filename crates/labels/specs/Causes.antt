@@ -7,9 +7,10 @@ use lib.Dec.{eqb, ltb}
 use Rattle.labels.specs.declared.causes.Cause.{Cause}
 use Rattle.labels.specs.declared.causes.Cause.the-variants.{Yes, NegativeTime, T3, T1, T5, Total, VelocityAtZero}
 use Rattle.labels.specs.declared.causes.Cause.the-variants.{EndPosition, EndVelocity, EndAcceleration}
-use Rattle.labels.specs.declared.causes.Cause.the-variants.{AccelerationLimit, VelocityLimit, NoCall}
+use Rattle.labels.specs.declared.causes.Cause.the-variants.{AccelerationLimit, VelocityLimit, NoCall, NoRoot}
 
--- T3, T1 and T5: such a time is too short for its label. NoCall: `check` was not called.
+-- T3, T1 and T5: such a time is too short for its label. NoCall: `check` was not called. NoRoot: the attempt took a
+-- square root that does not exist.
 abbrev pub causeNumber : Cause → ℕ
 causeNumber Yes = 0
 causeNumber NegativeTime = 1
@@ -24,6 +25,7 @@ causeNumber EndAcceleration = 9
 causeNumber AccelerationLimit = 10
 causeNumber VelocityLimit = 11
 causeNumber NoCall = 12
+causeNumber NoRoot = 13
 
 abbrev pub isYes : Cause → Bool
 isYes c = eqb (causeNumber c) 0

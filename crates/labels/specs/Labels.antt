@@ -1,5 +1,5 @@
 -- The labels of a profile and document 01's numbers for them, both ways. Definitions only.
-use mathlib.Core.Bool.{cond}
+use mathlib.Core.Bool.{Bool, cond, not, _&&_}
 use mathlib.Core.List.{[], _∷_}
 use Prim.Native.Nat.{ℕ}
 use lib.Dec.{eqb}
@@ -12,7 +12,7 @@ use Rattle.labels.specs.declared.Direction.the-variants.{UP, DOWN}
 use Rattle.labels.specs.declared.ControlSigns.{ControlSigns}
 use Rattle.labels.specs.declared.ControlSigns.the-variants.{UDDU, UDUD}
 use Rattle.labels.specs.declared.causes.Cause.{Cause}
-use Rattle.labels.specs.declared.causes.Cause.the-variants.{NoCall}
+use Rattle.labels.specs.declared.causes.Cause.the-variants.{NoCall, NoRoot}
 use Rattle.labels.specs.declared.Labels.{Labels}
 
 abbrev pub labelNumber : ReachedLimits → ℕ
@@ -48,3 +48,9 @@ labels l d s n c = record { limits = l; direction = d; «control_signs» = s; ca
 -- those of a default profile: no call yet
 abbrev pub startLabels : Labels
 startLabels = labels None UP UDDU 0 NoCall
+
+-- What a verdict's labels become by a mark: a no is put down to the root that does not exist, ahead of 1 to 11; a yes
+-- stays one.
+abbrev pub markedLabels : (marked ok : Bool) → Labels → Labels
+markedLabels marked ok l =
+    labels (l .limits) (l .direction) (l .«control_signs») (l .calls) (cond (marked && not ok) NoRoot (l .cause))

@@ -1,4 +1,4 @@
-// Why `check` said no: the cause of a verdict, with the numbers of document 02's Paper 1, and the count of calls.
+// Why `check` said no: the cause of a verdict, by the numbers of document 02's Papers 1 and 6, and the count of calls.
 ghost use mathlib.Core.Path.{_≡_};
 ghost use Rattle.labels.specs.Causes.{causeNumber, isYes, countedOf};
 
@@ -16,6 +16,7 @@ pub enum Cause {
     AccelerationLimit,
     VelocityLimit,
     NoCall,
+    NoRoot,
 }
 
 pub fn cause_number(cause: Cause) -> u8
@@ -35,6 +36,7 @@ pub fn cause_number(cause: Cause) -> u8
         Cause::AccelerationLimit => 10,
         Cause::VelocityLimit => 11,
         Cause::NoCall => 12,
+        Cause::NoRoot => 13,
     }
 }
 

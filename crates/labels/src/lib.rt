@@ -6,7 +6,7 @@ pub mod tests;
 use causes::Cause;
 ghost use mathlib.Core.Path.{_≡_};
 ghost use Rattle.labels.specs.Labels.{labelNumber, directionNumber, signsNumber};
-ghost use Rattle.labels.specs.Labels.{labelOf, signsOf, startLabels};
+ghost use Rattle.labels.specs.Labels.{labelOf, signsOf, startLabels, markedLabels};
 
 pub enum ReachedLimits {
     Acc0Acc1Vel,
@@ -117,5 +117,26 @@ pub fn start_labels() -> Labels
         control_signs: ControlSigns::UDDU,
         calls: 0,
         cause: Cause::NoCall,
+    }
+}
+
+// What a verdict's labels become by a mark: the no of an attempt whose square root does not exist is put down to that,
+// whichever test said it.
+pub fn marked_labels(marked: bool, ok: bool, was: Labels) -> Labels
+    ensures { λ r. ⌜ r ≡ markedLabels marked ok was ⌝ }
+{
+    if marked & !ok {
+        let limits = was.limits;
+        let direction = was.direction;
+        let control_signs = was.control_signs;
+        Labels {
+            limits,
+            direction,
+            control_signs,
+            calls: was.calls,
+            cause: Cause::NoRoot,
+        }
+    } else {
+        was
     }
 }

@@ -21,7 +21,7 @@ use Rattle.labels.specs.declared.ControlSigns.the-variants.{UDDU, UDUD}
 use Rattle.labels.specs.declared.causes.Cause.{Cause}
 use Rattle.labels.specs.declared.causes.Cause.the-variants.{Yes, NegativeTime, T3, T1, T5, Total, VelocityAtZero}
 use Rattle.labels.specs.declared.causes.Cause.the-variants.{EndPosition, EndVelocity, EndAcceleration}
-use Rattle.labels.specs.declared.causes.Cause.the-variants.{AccelerationLimit, VelocityLimit, NoCall}
+use Rattle.labels.specs.declared.causes.Cause.the-variants.{AccelerationLimit, VelocityLimit, NoCall, NoRoot}
 use Rattle.labels.specs.Causes.{causeNumber}
 use Rattle.row.specs.Row.{Numbers}
 use Rattle.profile.specs.declared.Checked.{Checked}
@@ -103,6 +103,7 @@ cause-lt EndAcceleration = lit≤ tt
 cause-lt AccelerationLimit = lit≤ tt
 cause-lt VelocityLimit = lit≤ tt
 cause-lt NoCall = lit≤ tt
+cause-lt NoRoot = lit≤ tt
 
 need-lt : (n : Need) → needNumber n < 256
 need-lt Nothing = lit≤ tt

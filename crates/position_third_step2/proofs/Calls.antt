@@ -6,7 +6,7 @@ use mathlib.Core.List.{List, [], _++_}
 use Prim.Native.Nat.{_≤_}
 use native.Mathlib.Nat.{zero-add}
 use native.Mathlib.Omega.{arith}
-use lib.Dec.{T, leb, lit≤}
+use lib.Dec.{lit≤}
 use lib.ListN.{length, getD, length-append, length-map}
 use lib.Ieee.{Float, nan}
 use Rattle.labels.specs.declared.causes.Cause.the-variants.{NoCall}
@@ -85,5 +85,5 @@ module _ (s : PositionThirdOrderStep2) (l : Limits) (q : Quartics) (first second
     no-call z = ap (λ (p : Profile). p .cause) (none-called l (attemptsOf shape s l q first second) (fresh x) z)
 
     pub some-call : (callsOf l (attemptsOf shape s l q first second) (fresh x) ≡ 0 → ⊥)
-        → T (leb (causeNumber (shapeOf shape s l q first second (fresh x) .profile .cause)) 11)
+        → causeNumber (shapeOf shape s l q first second (fresh x) .profile .cause) ≡ 12 → ⊥
     some-call h = called l (attemptsOf shape s l q first second) (fresh x) h

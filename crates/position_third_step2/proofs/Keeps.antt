@@ -26,6 +26,7 @@ use Rattle.limits.specs.Limits.{bandOf}
 use Rattle.phases.specs.Phase.{nodeOf, phaseOf}
 use Rattle.profile.specs.Parts.{profileOf, nodesOf}
 use Rattle.profile.specs.Check.{checkOf}
+use Rattle.profile.specs.Timing.{markedBy, timingOf}
 use Rattle.profile.proofs.Left.{leaves}
 use Rattle.roots.specs.declared.RootAnswer.{RootAnswer}
 use Rattle.step2_solver.specs.declared.PositionThirdOrderStep2.{PositionThirdOrderStep2}
@@ -152,13 +153,19 @@ check-keeps signs limits set-limits jf v-max v-min a-max a-min q h =
           (parts (h .seven-t) hs hj hn k);
     }
 
+mark-keeps : (marked : Bool) (c : Checked) → Leaves c → Leaves (markedBy marked c)
+mark-keeps marked c h =
+    let w = h .lengths in
+    record { lengths = parts (w .seven-t) (w .seven-t-sum) (w .seven-j) (nodes w) (w .byte-calls) }
+
 -- ---- a trial, and trials in turn, whatever they try
 try-keeps : (l : Limits) (k : Trial) → Keeps (tryOf l k)
-unfolding tryOf attemptOf
+unfolding tryOf attemptOf timingOf
 try-keeps l k q h =
     keeps-cond (k .made)
+    (mark-keeps (k .marked) _
     (check-keeps (k .signs) (k .label) false (k .jf) (l .«v_max») (l .«v_min») (l .«a_max») (l .«a_min») _
-    (parts refl (h .seven-t-sum) (h .seven-j) (nodes h) (h .byte-calls)))
+    (parts refl (h .seven-t-sum) (h .seven-j) (nodes h) (h .byte-calls))))
     (record { lengths = h })
 
 pub tried-keeps : (l : Limits) (ks : List Trial) → Keeps (triedOf l ks)

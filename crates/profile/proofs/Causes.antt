@@ -101,6 +101,15 @@ module _ (signs : ControlSigns) (limits : ReachedLimits) (set-limits : Bool) (jf
       subst (λ (c : Cause). T (leb (causeNumber c) 11)) (sym cause-is)
       (some-cause (testsOf limits) (q .t) s n (goalOf q) (bandOf v-max a-max a-min) (bandOf v-max v-max v-min))
 
+  -- the cause before is not looked at: that of the last call alone counts
+  pub cause-anew : (k : ℕ) (c : Cause)
+      → checkOf signs limits set-limits jf v-max v-min a-max a-min (noted k c q) .profile .cause
+      ≡ checkOf signs limits set-limits jf v-max v-min a-max a-min q .profile .cause
+  cause-anew k c =
+      leaves signs limits set-limits jf v-max v-min a-max a-min (noted k c q) (λ z. z .cause ≡ causeOf made) refl refl
+      refl
+      ∙ sym cause-is
+
   -- Demand 2 leaves count and cause out: whatever they were, the verdict and the Rust's record are the same.
   pub apart : (k : ℕ) (c : Cause)
       → rustOf (checkOf signs limits set-limits jf v-max v-min a-max a-min (noted k c q))

@@ -3,3 +3,4 @@ pub mod Ways
 pub mod Left
 pub mod Causes
 mod Gets
+pub mod Marks

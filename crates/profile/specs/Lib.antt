@@ -1,3 +1,4 @@
 pub mod Parts
 pub mod Check
 pub mod Boundary
+pub mod Timing

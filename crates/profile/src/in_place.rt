@@ -7,6 +7,7 @@ use labels::ReachedLimits;
 use labels::causes::Cause;
 use labels::causes::counted;
 use labels::causes::is_yes;
+use labels::marked_labels;
 use labels::tests::tests_under;
 use limits::direction;
 use limits::ended;
@@ -22,6 +23,7 @@ ghost use mathlib.Core.Bool.{false};
 ghost use Rattle.labels.specs.Labels.{labels};
 ghost use Rattle.profile.specs.Parts.{profileIn, checkedIn};
 ghost use Rattle.profile.specs.Check.{checkOf};
+ghost use Rattle.profile.specs.Timing.{timingOf};
 
 pub struct Verdict {
     pub ok: bool,
@@ -92,5 +94,42 @@ pub fn check(
             calls,
             cause,
         },
+    }
+}
+
+// Time is not tested: the Rust's formulas are to sum up to the duration. A marked attempt took a square root that does
+// not exist.
+pub fn check_with_timing(
+    x: &mut [f64; NUMBERS],
+    labels: Labels,
+    control_signs: ControlSigns,
+    limits: ReachedLimits,
+    jf: f64,
+    v_max: f64,
+    v_min: f64,
+    a_max: f64,
+    a_min: f64,
+    marked: bool,
+) -> Verdict
+    ensures { λ r. ⌜ checkedIn (now (x .exit)) r
+        ≡ timingOf «control_signs» limits jf «v_max» «v_min» «a_max» «a_min» marked
+        (profileIn (now (x .entry)) labels) ⌝ }
+{
+    let answer = check(
+        x,
+        labels,
+        control_signs,
+        limits,
+        false,
+        jf,
+        v_max,
+        v_min,
+        a_max,
+        a_min,
+    );
+    let now = answer.labels;
+    Verdict {
+        ok: answer.ok,
+        labels: marked_labels(marked, answer.ok, now),
     }
 }

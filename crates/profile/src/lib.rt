@@ -9,6 +9,7 @@ use labels::Direction;
 use labels::Labels;
 use labels::ReachedLimits;
 use labels::causes::Cause;
+use labels::marked_labels;
 use labels::start_labels;
 use parts::eight;
 use parts::seven;
@@ -27,11 +28,11 @@ use row::set_sums;
 use row::set_times;
 use row::start;
 ghost use mathlib.Core.Path.{_≡_};
-ghost use mathlib.Core.Bool.{false};
 ghost use Rattle.row.specs.Row.{numbersIn};
 ghost use Rattle.profile.specs.Parts.{numbersOf, labelsOf, profileIn};
 ghost use Rattle.profile.specs.Check.{checkOf};
-ghost use Rattle.profile.specs.Boundary.{defaultOf, boundaryOf, checkFullOf};
+ghost use Rattle.profile.specs.Boundary.{defaultOf, boundaryOf};
+ghost use Rattle.profile.specs.Timing.{timingOf, timingFullOf};
 
 // J_EPS
 const J_EPS: f64 = 1e-12;
@@ -181,7 +182,6 @@ impl Profile {
         }
     }
 
-    // Time is not tested: the Rust's formulas are to sum up to the duration.
     pub fn check_with_timing(
         self,
         control_signs: ControlSigns,
@@ -191,13 +191,31 @@ impl Profile {
         v_min: f64,
         a_max: f64,
         a_min: f64,
+        marked: bool,
     ) -> Checked
-        ensures { λ r. ⌜ r ≡ checkOf «control_signs» limits false jf «v_max» «v_min» «a_max» «a_min» self ⌝ }
+        ensures { λ r. ⌜ r ≡ timingOf «control_signs» limits jf «v_max» «v_min» «a_max» «a_min» marked self ⌝ }
     {
-        self.check(control_signs, limits, false, jf, v_max, v_min, a_max, a_min)
+        let mut x = self.row();
+        let answer = in_place::check_with_timing(
+            &mut x,
+            self.labels(),
+            control_signs,
+            limits,
+            jf,
+            v_max,
+            v_min,
+            a_max,
+            a_min,
+            marked,
+        );
+        let now = answer.labels;
+        Checked {
+            ok: answer.ok,
+            profile: Profile::from_row(x, now),
+        }
     }
 
-    // The jerk is held to j_max first.
+    // The jerk is held to j_max first. A marked attempt that it keeps from `check` has its cause all the same.
     pub fn check_with_timing_full(
         self,
         control_signs: ControlSigns,
@@ -209,16 +227,27 @@ impl Profile {
         a_max: f64,
         a_min: f64,
         j_max: f64,
+        marked: bool,
     ) -> Checked
         ensures { λ r. ⌜ r
-            ≡ checkFullOf «control_signs» limits jf «v_max» «v_min» «a_max» «a_min» «j_max» self ⌝ }
+            ≡ timingFullOf «control_signs» limits jf «v_max» «v_min» «a_max» «a_min» «j_max» marked self ⌝ }
     {
         if abs(jf) < abs(j_max) + J_EPS {
-            self.check_with_timing(control_signs, limits, jf, v_max, v_min, a_max, a_min)
+            self.check_with_timing(
+                control_signs,
+                limits,
+                jf,
+                v_max,
+                v_min,
+                a_max,
+                a_min,
+                marked,
+            )
         } else {
+            let left = marked_labels(marked, false, self.labels());
             Checked {
                 ok: false,
-                profile: self,
+                profile: Profile::from_row(self.row(), left),
             }
         }
     }

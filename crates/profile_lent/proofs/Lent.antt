@@ -12,7 +12,7 @@ use base.Stored.{Gv}
 use base.Fml.{GName, Lft, Share, ftrue, flft, fobs, fauth, fbor, fobor}
 use prog.Wp.{Heap}
 use ghost.Atoms.{Atoms, sem}
-use types.Kit.{Given, Goal, Soaks, Item, Seq, Step, step, ‵, _⊛_, _$_, _∵_, !, qed, move, join, fjoin, fjoin3, feqI}
+use types.Kit.{Given, Goal, Soaks, Item, Seq, Step, step, ‵, _$_, _∵_, !, qed, move, join, fjoin, fjoin3, feqI}
 use types.Kit.{use0, frame, done}
 use types.SemTy.{Body}
 use denote.RattleType.{RattleType, Denots, owns}

@@ -34,25 +34,28 @@ pub record Plain (R : RattleType) : Type 2 where
   pub tells : Tells R (Is R) (λ x. val x ∷ [])
   pub makes : (M : Type 1) (𝓤 : URA M) (H : Heap 𝓤) (A : Atoms 𝓤) → Given 𝓤 H A → Makes 𝓤 H A R (Is R)
   pub lawful : (M : Type 1) (𝓤 : URA M) (H : Heap 𝓤) (A : Atoms 𝓤) → Given 𝓤 H A → Lawful 𝓤 H A R
+  pub last : (x : R .Denot) → Last (R .exit yes) x
   pub silent : (x : R .Denot) (w : Last (R .exit yes) x) → left (R .exit yes) x w ≡ ftrue
 
 -- an enum that owns only facts
 abbrev enum : (T : Declared) → EL.Laws T → Plainss (variants T) → Few (shape T)
+    → ((x : T .D) → Last (row T .exit yes) x)
     → ((x : T .D) (w : Last (row T .exit yes) x) → left (row T .exit yes) x w ≡ ftrue) → Plain (row T)
-enum T laws plain few silent =
+enum T laws plain few last silent =
     record {
       val = EL.val T laws;
       tells = EL.tells T laws;
       makes = λ M 𝓤 H A W. EL.makes T plain 𝓤 H A;
       lawful = λ M 𝓤 H A W. EL.lawful T laws 𝓤 H A W few;
+      last = last;
       silent = silent;
     }
 
 abbrev pub signs : Plain S.the-row
-signs = enum S.the-type S′.the-laws S′.the-plain tt (λ x w. refl)
+signs = enum S.the-type S′.the-laws S′.the-plain tt (λ x. tt) (λ x w. refl)
 
 abbrev pub limits : Plain L.the-row
-limits = enum L.the-type L′.the-laws L′.the-plain tt (λ x w. refl)
+limits = enum L.the-type L′.the-laws L′.the-plain tt (λ x. tt) (λ x w. refl)
 
 abbrev pub truth : Plain bool
 truth =
@@ -61,6 +64,7 @@ truth =
       tells = bool-tells;
       makes = λ M 𝓤 H A W. bool-makes 𝓤 H A W;
       lawful = λ M 𝓤 H A W. bool-lawful 𝓤 H A W;
+      last = λ x. tt;
       silent = λ x w. refl;
     }
 
@@ -70,6 +74,7 @@ number = record {
   tells = float-tells binary64;
   makes = λ M 𝓤 H A W. float-makes 𝓤 H A W binary64;
   lawful = λ M 𝓤 H A W. float-lawful 𝓤 H A W binary64;
+  last = λ x. tt;
   silent = λ x w. refl;
 }
 
@@ -105,6 +110,15 @@ keeps n (R ∷ Rs) = (yes, keeps n Rs)
 abbrev pub stays : (n : ℕ) (Rs : List RattleType) → Stays (slots n Rs) (keeps n Rs)
 stays n [] = tt
 stays n (R ∷ Rs) = (stay-none (λ _. R) yes, stays n Rs)
+
+-- what is bound for each at exit
+abbrev pub Ends : (Rs : List RattleType) → Denots Rs → Type 0
+Ends [] e = Unit {0}
+Ends (R ∷ Rs) e = Last (R .exit yes) (e .0) × Ends Rs (e .1)
+
+abbrev pub ends : (Rs : List RattleType) → Plains Rs → (e : Denots Rs) → Ends Rs e
+ends [] ps e = tt
+ends (R ∷ Rs) ps e = (ps .0 .last (e .0), ends Rs (ps .1) (e .1))
 
 module _ {M : Type 1} (𝓤 : URA M) (H : Heap 𝓤) (A : Atoms 𝓤) (W : Given 𝓤 H A) where
   makess : (Rs : List RattleType) → Plains Rs → Makess 𝓤 H A Rs (Ises Rs)

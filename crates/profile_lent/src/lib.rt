@@ -4,8 +4,8 @@ use labels::ControlSigns;
 use labels::ReachedLimits;
 use profile::Profile;
 ghost use mathlib.Core.Path.{_≡_};
-ghost use mathlib.Core.Bool.{false};
 ghost use Rattle.profile.specs.Check.{checkOf};
+ghost use Rattle.profile.specs.Timing.{timingOf};
 ghost use Rattle.profile.specs.Boundary.{boundaryOf};
 
 pub fn set_boundary(
@@ -63,19 +63,22 @@ pub fn check_with_timing(
     v_min: f64,
     a_max: f64,
     a_min: f64,
+    marked: bool,
 ) -> bool
     ensures { λ r. ⌜ record { ok = r; profile = now (p .exit) }
-        ≡ checkOf «control_signs» limits false jf «v_max» «v_min» «a_max» «a_min» (now (p .entry)) ⌝ }
+        ≡ timingOf «control_signs» limits jf «v_max» «v_min» «a_max» «a_min» marked (now (p .entry)) ⌝ }
 {
-    check(
-        p,
+    let q = *p;
+    let timed = q.check_with_timing(
         control_signs,
         limits,
-        false,
         jf,
         v_max,
         v_min,
         a_max,
         a_min,
-    )
+        marked,
+    );
+    *p = timed.profile;
+    timed.ok
 }

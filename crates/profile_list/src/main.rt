@@ -1,6 +1,7 @@
 // Functions of `profile`, `profile_lent` and `float` that no line reaches, on a stored list. A line is the bytes of a
 // kind 00 frame with j_max and tf after them, its first byte saying what is called: 00 the three lent functions one
 // after the other, 01 `check_with_timing`, 02 `check_with_timing_full`; or 03 and a number, for `is_finite`.
+// 04, 05 and 06 are 00, 01 and 02 with the mark of a square root that does not exist; `check` itself takes no mark.
 // A record is answered with the count of its calls of `check` and the cause of the last one after it.
 // The list is made by oracle/lists.sh, seed 1, with what the Rust answers.
 use digits::byte_to_digits;
@@ -56,6 +57,7 @@ fn lent(
     v_min: f64,
     a_max: f64,
     a_min: f64,
+    marked: bool,
 ) -> Twice {
     profile_lent::set_boundary(&mut p, p0, v0, a0, pf, vf, af);
     let ok = profile_lent::check(
@@ -79,6 +81,7 @@ fn lent(
         v_min,
         a_max,
         a_min,
+        marked,
     );
     Twice {
         ok,
@@ -96,7 +99,7 @@ fn timed(x: CheckNumbers) -> Profile {
     q
 }
 
-fn send_lent(frame: &[u8; FRAME], x: CheckNumbers) -> bool {
+fn send_lent(frame: &[u8; FRAME], x: CheckNumbers, marked: bool) -> bool {
     let r = lent(
         timed(x),
         x.p0,
@@ -113,6 +116,7 @@ fn send_lent(frame: &[u8; FRAME], x: CheckNumbers) -> bool {
         x.v_min,
         x.a_max,
         x.a_min,
+        marked,
     );
     let left = r.left;
     let last = r.last;
@@ -131,7 +135,7 @@ fn bounded(x: CheckNumbers) -> Profile {
     timed(x).set_boundary(x.p0, x.v0, x.a0, x.pf, x.vf, x.af)
 }
 
-fn with_timing(frame: &[u8; FRAME], x: CheckNumbers) -> Checked {
+fn with_timing(frame: &[u8; FRAME], x: CheckNumbers, marked: bool) -> Checked {
     bounded(x).check_with_timing(
         signs(frame[1]),
         label(frame[2]),
@@ -140,10 +144,17 @@ fn with_timing(frame: &[u8; FRAME], x: CheckNumbers) -> Checked {
         x.v_min,
         x.a_max,
         x.a_min,
+        marked,
     )
 }
 
-fn with_timing_full(frame: &[u8; FRAME], x: CheckNumbers, tf: f64, j_max: f64) -> Checked {
+fn with_timing_full(
+    frame: &[u8; FRAME],
+    x: CheckNumbers,
+    tf: f64,
+    j_max: f64,
+    marked: bool,
+) -> Checked {
     bounded(x).check_with_timing_full(
         signs(frame[1]),
         label(frame[2]),
@@ -154,15 +165,17 @@ fn with_timing_full(frame: &[u8; FRAME], x: CheckNumbers, tf: f64, j_max: f64) -
         x.a_max,
         x.a_min,
         j_max,
+        marked,
     )
 }
 
 fn send_reply(what: u8, frame: &[u8; FRAME], j_max: f64, tf: f64) -> bool {
     let x = check_numbers(frame).x;
+    let marked = what >= 4;
     match what {
-        0 => send_lent(frame, x),
-        1 => send_record(with_timing(frame, x)),
-        2 => send_record(with_timing_full(frame, x, tf, j_max)),
+        0 | 4 => send_lent(frame, x, marked),
+        1 | 5 => send_record(with_timing(frame, x, marked)),
+        2 | 6 => send_record(with_timing_full(frame, x, tf, j_max, marked)),
         _ => false,
     }
 }

@@ -6,7 +6,7 @@ use mathlib.Core.List.{[], _∷_}
 use lib.Ieee.{neg, ofBits, lt, le, eq, add, sub, mul, div}
 use Rattle.float.specs.Ops.{#0, #1, #2, #3, #8}
 use Rattle.float.specs.Helpers.{absOf}
-use Rattle.sqrt.specs.Sqrt.{sqrtOf}
+use Rattle.sqrt.specs.Sqrt.{squareRootOf, sqrtOf}
 use Rattle.roots.specs.declared.Three.{Three}
 use Rattle.roots.specs.declared.RootAnswer.{RootAnswer}
 use Rattle.roots.specs.declared.RootAnswer.the-variants.{CubeRoot, Resolved}
@@ -19,11 +19,11 @@ unfolding needOf absOf lt ofBits
 needs-nothing = refl
 
 pub zero-one-two : (answer : RootAnswer) → rootsOf (neg #3) #2 #0 #0 answer ≡ #0 ∷ #1 ∷ #2 ∷ []
-unfolding rootsOf sqrtOf absOf neg ofBits add sub mul div lt le eq
+unfolding rootsOf sqrtOf squareRootOf absOf neg ofBits add sub mul div lt le eq
 zero-one-two answer = refl
 
 pub zero-one-two-tried : (answer : RootAnswer) → sortedOf (rootsOf (neg #3) #2 #0 #0 answer) ≡ #0 ∷ #1 ∷ #2 ∷ []
-unfolding sortedOf rootsOf sqrtOf absOf neg ofBits add sub mul div lt le eq
+unfolding sortedOf rootsOf sqrtOf squareRootOf absOf neg ofBits add sub mul div lt le eq
 zero-one-two-tried answer = refl
 
 -- x⁴ - 8 x needs the cube root of -8, and has the roots 0 and 2; the resolvent's answer does not suit it

@@ -4,7 +4,7 @@ use float::abs;
 use float::near;
 use float::pick;
 use positive_set::PositiveSet;
-use sqrt::sqrt;
+use sqrt::sqrt_unmarked;
 ghost use mathlib.Core.Path.{_≡_};
 ghost use mathlib.Core.List.{List, []};
 ghost use Prim.Native.Nat.{_≤_};
@@ -128,7 +128,7 @@ fn factor(a: f64, b: f64, c: f64, d: f64, y: f64) -> Factors
                 q2: q,
             }
         } else {
-            let sqrt_d = sqrt(d_);
+            let sqrt_d = sqrt_unmarked(d_);
             Factors {
                 p1: (a + sqrt_d) / 2.0,
                 q1: q,
@@ -137,7 +137,7 @@ fn factor(a: f64, b: f64, c: f64, d: f64, y: f64) -> Factors
             }
         }
     } else {
-        let sqrt_d = sqrt(d_);
+        let sqrt_d = sqrt_unmarked(d_);
         let q1 = (y + sqrt_d) / 2.0;
         let q2 = (y - sqrt_d) / 2.0;
         Factors {
@@ -158,7 +158,7 @@ fn insert_quadratic(roots: PositiveSet, p: f64, q: f64, eps: f64) -> PositiveSet
     if near(d_, eps) {
         roots.insert(-p / 2.0)
     } else if d_ > 0.0 {
-        let sqrt_d = sqrt(d_);
+        let sqrt_d = sqrt_unmarked(d_);
         roots
             .insert((-p - sqrt_d) / 2.0)
             .insert((-p + sqrt_d) / 2.0)

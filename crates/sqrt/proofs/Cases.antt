@@ -1,4 +1,5 @@
--- What the tests of `sqrt` say of its argument: above zero, and below it or a zero. Assumes nothing.
+-- What the tests of `sqrt_unmarked` and of `sqrt` say of their argument: above zero, a zero, or neither. Assumes
+-- nothing.
 use mathlib.Core.Path.{_≡_, refl, sym, ap, _∙_, subst}
 use Prim.Native.Nat.{ℕ, zero, suc, _+_, _*_, _%_, _^_, _≤_, _<_}
 use native.Mathlib.Nat.{le-trans, le-of-eq, zero-lt-suc, zero-mul, le-of-lt, mul-pos, mul-le-mul-right, one-mul}
@@ -7,11 +8,14 @@ use native.Mathlib.Omega.{arith}
 use mathlib.Core.Bool.{Bool, true, false, not, _&&_, _||_, Bool·beq, true≢false, false≢true}
 use lib.IntN.{ℤ}
 use lib.Dec.{T, ltb, leb, eqb, leb→le, eqb→eq, not-T}
-use lib.Ieee.{Float, nan, inf, fin, binary64, up, down, level, lt, eq, div, fits, isNan, nanBits, ofBits, toBits}
+use lib.Ieee.{Float, nan, inf, fin, binary64, up, down, below, level, lt, eq, le, div, fits, isNan, nanBits, ofBits}
+use lib.Ieee.{toBits}
 use lib.Ieee.Fits.{up-pos, down-pos, and-l, and-r}
 use lib.Ieee.Bits.{cond-no, nanBits-above}
-use borrow.Author.Tests.{ltb-true, ltb-false, le-ltb}
-use Rattle.sqrt.specs.Sqrt.{nearestRoot, unitsOf, radicand, sqrtOf}
+use borrow.Author.Tests.{ltb-true, ltb-false, lt-ltb, le-ltb}
+use Rattle.sqrt.specs.declared.SquareRoot.{SquareRoot}
+use Rattle.sqrt.specs.declared.SquareRoot.the-variants.{Root, Mark}
+use Rattle.sqrt.specs.Sqrt.{nearestRoot, unitsOf, radicand, squareRootOf, f64Of, sqrtOf}
 use Rattle.sqrt.specs.Steps.{RootBits}
 use Rattle.sqrt.proofs.Units.{toBits-parts}
 
@@ -73,7 +77,7 @@ bits-pos (fin false (suc m) e) f t =
 
 -- ---- the root, by what x is
 infinite : inf false ≡ sqrtOf (inf false)
-unfolding sqrtOf
+unfolding sqrtOf squareRootOf
 infinite = refl
 
 pub not-zero-test : (m : ℕ) → T (not (eqb (suc m) 0))
@@ -81,8 +85,8 @@ not-zero-test m = not-T (eqb (suc m) 0) (λ t. let h : suc m ≡ 0 = eqb→eq (s
 
 pub sqrt-positive : (m : ℕ) (e : ℤ)
     → sqrtOf (fin false (suc m) e) ≡ nearestRoot (unitsOf (fin false (suc m) e) * 2 ^ 1074)
-unfolding sqrtOf radicand
-sqrt-positive m e = cond-no (eqb (suc m) 0) _ _ (not-zero-test m)
+unfolding sqrtOf squareRootOf radicand
+sqrt-positive m e = ap f64Of (cond-no (eqb (suc m) 0) _ _ (not-zero-test m))
 
 -- from infinity's bits on it is infinity
 pub sqrt-infinite : (x : Float) → T (fits binary64 x) → lt (ofBits binary64 0) x ≡ true
@@ -118,7 +122,7 @@ no-nan-bits r h =
     wide r g = omega arith
 
 -- ---- a zero, and what has no root
-size-pos : (m : ℕ) (e : ℤ) → 0 < suc m * up e * 1
+pub size-pos : (m : ℕ) (e : ℤ) → 0 < suc m * up e * 1
 size-pos m e = mul-pos (mul-pos (zero-lt-suc m) (up-pos e)) (zero-lt-suc 0)
 
 not-zero : (m : ℕ) (e : ℤ) → suc m * up e * 1 ≤ 0 * down e → ⊥
@@ -135,7 +139,7 @@ zero-level s a b p q = rw (p, q) (go s)
     go false = refl
 
 pub sqrt-zero : (x : Float) → eq x (ofBits binary64 0) ≡ true → x ≡ sqrtOf x
-unfolding eq ofBits sqrtOf
+unfolding eq ofBits sqrtOf squareRootOf
 sqrt-zero nan t = absurd (false≢true t)
 sqrt-zero (inf s) t = absurd (false≢true t)
 sqrt-zero (fin s zero e) t = refl
@@ -147,11 +151,51 @@ sqrt-zero (fin s (suc m) e) t =
 
 pub sqrt-none : (x : Float) → lt (ofBits binary64 0) x ≡ false → eq x (ofBits binary64 0) ≡ false
     → div binary64 (ofBits binary64 0) (ofBits binary64 0) ≡ sqrtOf x
-unfolding lt eq div ofBits sqrtOf
+unfolding lt eq div ofBits sqrtOf squareRootOf
 sqrt-none nan t u = refl
 sqrt-none (inf true) t u = refl
 sqrt-none (inf false) t u = absurd (true≢false t)
 sqrt-none (fin s zero e) t u =
     absurd (true≢false (sym (zero-level s (0 * up e * 1) (0 * down e) (omega arith) (omega arith)) ∙ u))
-sqrt-none (fin true (suc m) e) t u = sym (cond-no (eqb (suc m) 0) _ _ (not-zero-test m))
+sqrt-none (fin true (suc m) e) t u = sym (ap f64Of (cond-no (eqb (suc m) 0) _ _ (not-zero-test m)))
 sqrt-none (fin false (suc m) e) t u = absurd (not-zero m e (ltb-false (0 * down e) (suc m * up e * 1) t))
+
+-- ---- 0 or above, or neither: 0 against ±b, as `le` has it
+abbrev from-0 : Bool → ℕ → ℕ → Bool
+from-0 s a b = below false a s b || level false a s b
+
+zero-from-0 : (s : Bool) (a b : ℕ) → a ≡ 0 → b ≡ 0 → from-0 s a b ≡ true
+zero-from-0 true a b p q = rw (p, q)
+zero-from-0 false a b p q = rw (p, q)
+
+plus-from-0 : (a b : ℕ) → a ≡ 0 → 0 < b → from-0 false a b ≡ true
+plus-from-0 a b p h = rw (p, lt-ltb 0 b h)
+
+minus-from-0 : (a b : ℕ) → a ≡ 0 → 0 < b → from-0 true a b ≡ false
+minus-from-0 a b p h = rw p (by (eqb 0 b) (λ t. let e = eqb→eq 0 b t in omega arith))
+  where
+    by : (c : Bool) → (T c → ⊥) → c && (Bool·beq false true || eqb 0 0) ≡ false
+    by true h = absurd (h tt)
+    by false h = refl
+
+pub has-root : (x : Float) → le (ofBits binary64 0) x ≡ true → Root (sqrtOf x) ≡ squareRootOf x
+unfolding le lt eq ofBits sqrtOf squareRootOf
+has-root nan t = absurd (false≢true t)
+has-root (inf true) t = absurd (false≢true t)
+has-root (inf false) t = refl
+has-root (fin s zero e) t = refl
+has-root (fin true (suc m) e) t =
+    absurd (true≢false (sym t ∙ minus-from-0 (0 * down e) (suc m * up e * 1) (omega arith) (size-pos m e)))
+has-root (fin false (suc m) e) t =
+    let q = cond-no (eqb (suc m) 0) _ _ (not-zero-test m) in ap (λ (r : SquareRoot). Root (f64Of r)) q ∙ sym q
+
+pub has-mark : (x : Float) → le (ofBits binary64 0) x ≡ false → Mark ≡ squareRootOf x
+unfolding le lt eq ofBits squareRootOf
+has-mark nan t = refl
+has-mark (inf true) t = refl
+has-mark (inf false) t = absurd (true≢false t)
+has-mark (fin s zero e) t =
+    absurd (true≢false (sym (zero-from-0 s (0 * down e) (0 * up e * 1) (omega arith) (omega arith)) ∙ t))
+has-mark (fin true (suc m) e) t = sym (cond-no (eqb (suc m) 0) _ _ (not-zero-test m))
+has-mark (fin false (suc m) e) t =
+    absurd (true≢false (sym (plus-from-0 (0 * down e) (suc m * up e * 1) (omega arith) (size-pos m e)) ∙ t))

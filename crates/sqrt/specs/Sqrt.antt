@@ -6,9 +6,11 @@
 -- there is no even or odd exponent, no subnormal case and no fraction. Definitions only;
 -- `proofs/Nearest.antt` proves that no f64 is nearer to the exact root.
 use Prim.Native.Nat.{ℕ, zero, suc, _+_, _-_, _*_, _/_, _^_, _≤_, _<_, compare}
-use mathlib.Core.Bool.{false, cond}
+use mathlib.Core.Bool.{Bool, true, false, cond}
 use lib.Dec.{leb, eqb}
 use lib.Ieee.{Float, nan, inf, fin, binary64, prec, up, down, size, nearest, units}
+use Rattle.sqrt.specs.declared.SquareRoot.{SquareRoot}
+use Rattle.sqrt.specs.declared.SquareRoot.the-variants.{Root, Mark}
 
 -- r is the whole part of √n.
 pub record IsRoot (n r : ℕ) : Type 0 where
@@ -51,9 +53,24 @@ unfoldable pub radicand : Float → ℕ
 unfolding unitsOf
 radicand x = unitsOf x * 2 ^ 1074
 
--- The square root: each zero gives itself, a number below zero and a NaN give NaN, and infinity gives itself.
-unfoldable pub sqrtOf : Float → Float
+-- The square root: each zero has itself, -0 too, and so has infinity; a number below zero and a NaN have a mark.
+unfoldable pub squareRootOf : Float → SquareRoot
 unfolding nearestRoot radicand
-sqrtOf nan = nan
-sqrtOf (inf s) = cond s nan (inf s)
-sqrtOf (fin s m e) = cond (eqb m 0) (fin s m e) (cond s nan (nearestRoot (radicand (fin s m e))))
+squareRootOf nan = Mark
+squareRootOf (inf s) = cond s Mark (Root (inf s))
+squareRootOf (fin s m e) =
+    cond (eqb m 0) (Root (fin s m e)) (cond s Mark (Root (nearestRoot (radicand (fin s m e)))))
+
+-- the f64 that goes on into the formulas
+abbrev pub f64Of : SquareRoot → Float
+f64Of (Root r) = r
+f64Of Mark = nan
+
+abbrev pub isMark : SquareRoot → Bool
+isMark (Root r) = false
+isMark Mark = true
+
+-- the square root as IEEE 754 and the Rust have it: NaN where there is a mark
+unfoldable pub sqrtOf : Float → Float
+unfolding squareRootOf
+sqrtOf x = f64Of (squareRootOf x)

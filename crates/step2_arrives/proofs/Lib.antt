@@ -6,3 +6,4 @@ pub mod Trials
 pub mod Shapes
 pub mod Lines
 pub mod ZeroTests
+pub mod Marked

@@ -1,6 +1,6 @@
 -- What trials in turn make of a profile: they leave start and goal as they were, after a no as after a yes, and a yes
 -- was made by one of them, of whose times enough is known (`Known`). Assumes nothing.
-use mathlib.Core.Path.{_≡_, refl, sym}
+use mathlib.Core.Path.{_≡_, refl, sym, ap}
 use mathlib.Core.Bool.{Bool, true, false, cond, not, true≢false}
 use mathlib.Core.List.{List, [], _∷_}
 use lib.Dec.{T}
@@ -9,7 +9,7 @@ use Rattle.labels.specs.declared.ReachedLimits.{ReachedLimits}
 use Rattle.labels.specs.declared.ControlSigns.{ControlSigns}
 use Rattle.profile.specs.declared.Profile.{Profile}
 use Rattle.profile.specs.declared.Checked.{Checked}
-use Rattle.profile_arrives.proofs.Yes.{check-carries}
+use Rattle.profile_arrives.proofs.Yes.{Carried, check-carries}
 use Rattle.positive_set.proofs.Laws.{Every}
 use Rattle.step2_solver.specs.declared.Move.{Move}
 use Rattle.step2_solver.specs.declared.Times.{Times}
@@ -18,6 +18,9 @@ use Rattle.step2_solver.specs.New.{limitsOf}
 use Rattle.step2_solver.specs.Trials.{trialOf, noTrial}
 use Rattle.row.specs.Row.{withTimes}
 use Rattle.profile.specs.Parts.{changed}
+use Rattle.profile.specs.Check.{checkOf}
+use Rattle.profile.specs.Timing.{markedBy, timingOf}
+use Rattle.profile.proofs.Marks.{yes-stays}
 use Rattle.step2_attempt.specs.Attempt.{sevenOf, attemptOf, nothing, tryOf, triedOf}
 use Rattle.step2_arrives.specs.Moves.{Starts}
 use Rattle.step2_arrives.proofs.Made.{Timed, Made, starts-with-times, starts-left}
@@ -28,8 +31,8 @@ pub record Known (m : Move) (k : Trial) : Type 0 where
   pub held-jf : T (k .made) → T (fits binary64 (k .jf))
 
 module _ {m : Move} where
-  pub known : {x : Times} {signs : ControlSigns} {label : ReachedLimits} {jf : Float}
-      → Timed label (m .tf) (m .a0) jf x → T (fits binary64 jf) → Known m (trialOf x signs label jf)
+  pub known : {marked : Bool} {x : Times} {signs : ControlSigns} {label : ReachedLimits} {jf : Float}
+      → Timed label (m .tf) (m .a0) jf x → T (fits binary64 jf) → Known m (trialOf marked x signs label jf)
   known h f = record { timed = λ z. h; held-jf = λ z. f }
 
   pub none-known : Known m noTrial
@@ -47,6 +50,12 @@ pub record Sound (m : Move) (c : Checked) : Type 0 where
 abbrev pub AlwaysSound : Move → (Profile → Checked) → Type 0
 AlwaysSound m f = (q : Profile) → Starts m q → Sound m (f q)
 
+-- the mark leaves times, goal and nodes as they are
+carried-marked : {q : Profile} (marked : Bool) (c : Checked) → Carried q (c .profile)
+    → Carried q (markedBy marked c .profile)
+carried-marked marked c h =
+    record { t-is = h .t-is; pf-is = h .pf-is; vf-is = h .vf-is; af-is = h .af-is; nodes = h .nodes }
+
 module _ {m : Move} where
   sound-nothing : AlwaysSound m nothing
   sound-nothing q s = record { starts = s; made = λ e. absurd (true≢false (sym e)) }
@@ -56,16 +65,19 @@ module _ {m : Move} where
   sound-cond false h k = k tt
 
   pub sound-try : (k : Trial) → Known m k → AlwaysSound m (tryOf (limitsOf m) k)
-  unfolding tryOf attemptOf
+  unfolding tryOf attemptOf timingOf
   sound-try k h q s =
       sound-cond (k .made)
       (λ z.
       let b = starts-with-times (k .times) q (h .timed z .fit) s in
+      let c = checkOf (k .signs) (k .label) false (k .jf) (m .«v_max») (m .«v_min») (m .«a_max») (m .«a_min»)
+      (changed (withTimes (sevenOf (k .times))) q) in
       record {
         starts =
             starts-left
+            (carried-marked (k .marked) c
             (check-carries (k .signs) (k .label) (k .jf) (m .«v_max») (m .«v_min») (m .«a_max») (m .«a_min»)
-            (changed (withTimes (sevenOf (k .times))) q) (b .held) false)
+            (changed (withTimes (sevenOf (k .times))) q) (b .held) false))
             b;
         made = λ e.
             record {
@@ -79,7 +91,7 @@ module _ {m : Move} where
               timed = h .timed z;
               held-jf = h .held-jf z;
               said = e;
-              left = refl;
+              left = ap (λ (r : Checked). r .profile) (yes-stays (k .marked) c e);
             };
       })
       (λ z. sound-nothing q s)

@@ -2,11 +2,12 @@
 -- The root is any f64: only the formulas of the times count. So another t[1] in the rest formula asks for no more than
 -- `rest-sound` does. Assumes nothing.
 use mathlib.Core.Path.{refl}
-use mathlib.Core.Bool.{cond}
+use mathlib.Core.Bool.{Bool, false, cond}
 use lib.Dec.{T}
 use lib.Ieee.{Float}
 use lib.Ieee.Fits.{sub-fits, add-fits, div-fits, cond-fits}
 use lib.Ieee.Bits.{ofBits-fits}
+use Rattle.sqrt.specs.Sqrt.{squareRootOf, f64Of, sqrtOf}
 use Rattle.sqrt.proofs.Laws.{sqrtOf-fits}
 use Rattle.labels.specs.declared.ReachedLimits.{ReachedLimits}
 use Rattle.labels.specs.declared.ReachedLimits.the-variants.{Acc0Acc1}
@@ -21,15 +22,17 @@ use Rattle.step2_solver.specs.New.{solverOf, limitsOf}
 use Rattle.step2_solver.specs.declared.Times.{Times}
 use Rattle.step2_solver.specs.declared.Trial.{Trial}
 use Rattle.step2_solver.specs.Trials.{trialOf, noTrial}
-use Rattle.time_acc0_acc1_vel.specs.TimeAcc0Acc1Vel.{acc0Acc1VelUdduApplies, acc0Acc1VelUdduH1, acc0Acc1VelUdduT1}
+use Rattle.time_acc0_acc1_vel.specs.TimeAcc0Acc1Vel.{acc0Acc1VelUdduApplies, acc0Acc1VelUdduRadicand}
+use Rattle.time_acc0_acc1_vel.specs.TimeAcc0Acc1Vel.{acc0Acc1VelUdduH1, acc0Acc1VelUdduT1}
 use Rattle.time_acc0_acc1_vel.specs.TimeAcc0Acc1Vel.{acc0Acc1VelUdudApplies, acc0Acc1VelUdudT1, acc0Acc1VelUdudT3}
 use Rattle.time_acc0_acc1_vel.specs.TimeAcc0Acc1Vel.{acc0Acc1VelUddu, acc0Acc1VelUdud, acc0Acc1VelUdduTimes}
 use Rattle.time_acc0_acc1_vel.specs.TimeAcc0Acc1Vel.{acc0Acc1VelUdudTimes}
 use Rattle.time_acc0_acc1.specs.TimeAcc0Acc1.{acc0Acc1RestApplies, acc0Acc1RestH1, acc0Acc1RestH2, acc0Acc1RestJf}
-use Rattle.time_acc0_acc1.specs.TimeAcc0Acc1.{acc0Acc1RestT1, acc0Acc1RestTimes, acc0Acc1UdduH1, acc0Acc1UdduJf}
+use Rattle.time_acc0_acc1.specs.TimeAcc0Acc1.{acc0Acc1RestT1, acc0Acc1RestTimes, acc0Acc1UdduRadicand, acc0Acc1UdduJf}
 use Rattle.time_acc0_acc1.specs.TimeAcc0Acc1.{acc0Acc1Rest, acc0Acc1Uddu, acc0Acc1UdduT1, acc0Acc1UdduTimes}
-use Rattle.time_acc0.specs.TimeAcc0.{acc0FirstH1, acc0SecondH0a, acc0SecondH0b, acc0SecondH0, acc0SecondH1}
-use Rattle.time_acc0.specs.TimeAcc0.{acc0SecondT1, acc0ThirdH0a, acc0ThirdH0b, acc0ThirdH1, acc0ThirdH2}
+use Rattle.time_acc0.specs.TimeAcc0.{acc0FirstRadicand, acc0SecondH0a, acc0SecondH0b, acc0SecondRadicand, acc0SecondH0}
+use Rattle.time_acc0.specs.TimeAcc0.{acc0SecondH1, acc0SecondT1, acc0ThirdH0a, acc0ThirdH0b, acc0ThirdRadicand}
+use Rattle.time_acc0.specs.TimeAcc0.{acc0ThirdH1, acc0ThirdH2}
 use Rattle.time_acc0.specs.TimeAcc0.{acc0First, acc0Second, acc0Third}
 use Rattle.time_acc0.specs.TimeAcc0.{acc0FirstTimes, acc0SecondTimes, acc0ThirdTimes}
 use Rattle.step2_solver.specs.declared.Window.{Window}
@@ -75,8 +78,8 @@ module _ {m : Move} (n : MoveNumbers m) where
         of-j-max = n .of-j-max;
       }
 
-  by-j-max : {x : Times} {signs : ControlSigns} {label : ReachedLimits} → Timed label (m .tf) (m .a0) j-max x
-      → Known m (trialOf x signs label j-max)
+  by-j-max : {marked : Bool} {x : Times} {signs : ControlSigns} {label : ReachedLimits}
+      → Timed label (m .tf) (m .a0) j-max x → Known m (trialOf marked x signs label j-max)
   by-j-max h = known h (n .of-j-max .held)
 
   -- The times fit binary64, each being the result of an operation, a literal, or a number that fits; the facts say how
@@ -85,7 +88,8 @@ module _ {m : Move} (n : MoveNumbers m) where
   pub acc0-acc1-vel-uddu-known : Known m (acc0Acc1VelUddu s l)
   unfolding acc0Acc1VelUddu
   acc0-acc1-vel-uddu-known =
-      let h1 = acc0Acc1VelUdduH1 s a-max a-min j-max in let t1 = acc0Acc1VelUdduT1 s a-max a-min j-max h1 in
+      let root = squareRootOf (acc0Acc1VelUdduRadicand s a-max a-min j-max) in
+      let h1 = acc0Acc1VelUdduH1 j-max (f64Of root) in let t1 = acc0Acc1VelUdduT1 s a-max a-min j-max h1 in
       known-cond (acc0Acc1VelUdduApplies s a-max a-min j-max)
       (λ z. by-j-max
       (replacing (unfold acc0Acc1VelUdduTimes acc0Acc1VelUdduT1 in search (add-fits, sub-fits, div-fits))
@@ -147,15 +151,15 @@ module _ {m : Move} (n : MoveNumbers m) where
 
   -- ---- `time_acc0_acc1`, which computes its own jerk: the rest formula with any t[1] that is an f64
   module _ (jf t1 : Float) (f : Fits64 jf) (g : Fits64 t1) (z : T (acc0Acc1RestApplies s)) where
-    rest-known : Known m (trialOf (acc0Acc1RestTimes s a-max a-min jf t1) UDDU Acc0Acc1 jf)
+    rest-known : Known m (trialOf false (acc0Acc1RestTimes s a-max a-min jf t1) UDDU Acc0Acc1 jf)
     rest-known =
         known
         (replacing (unfold acc0Acc1RestTimes in search (sub-fits, div-fits, ofBits-fits))
         (λ t. acc0-acc1-rest (m .tf) (m .p0) (m .v0) (m .a0) (m .pf) (m .vf) (m .af) a-max a-min j-max numbers jf t1 z))
         f
 
-    pub rest-sound : AlwaysSound m (tryOf l (trialOf (acc0Acc1RestTimes s a-max a-min jf t1) UDDU Acc0Acc1 jf))
-    rest-sound = sound-try (trialOf (acc0Acc1RestTimes s a-max a-min jf t1) UDDU Acc0Acc1 jf) rest-known
+    pub rest-sound : AlwaysSound m (tryOf l (trialOf false (acc0Acc1RestTimes s a-max a-min jf t1) UDDU Acc0Acc1 jf))
+    rest-sound = sound-try (trialOf false (acc0Acc1RestTimes s a-max a-min jf t1) UDDU Acc0Acc1 jf) rest-known
 
   acc0-acc1-rest-known : T (acc0Acc1RestApplies s) → Known m (acc0Acc1Rest s l)
   unfolding acc0Acc1Rest
@@ -167,7 +171,7 @@ module _ {m : Move} (n : MoveNumbers m) where
   acc0-acc1-uddu-known : Known m (acc0Acc1Uddu s l)
   unfolding acc0Acc1Uddu
   acc0-acc1-uddu-known =
-      let jf = acc0Acc1UdduJf s a-max a-min (acc0Acc1UdduH1 s a-max a-min) in
+      let jf = acc0Acc1UdduJf s a-max a-min (f64Of (squareRootOf (acc0Acc1UdduRadicand s a-max a-min))) in
       let f : Fits64 jf = unfold acc0Acc1UdduJf in search (div-fits) in
       known
       (replacing (unfold acc0Acc1UdduTimes acc0Acc1UdduT1 in search (add-fits, sub-fits, div-fits, ofBits-fits))
@@ -183,14 +187,16 @@ module _ {m : Move} (n : MoveNumbers m) where
   acc0-first-known =
       by-j-max
       (leaving (unfold testsOf in refl)
-      (unfold acc0FirstTimes acc0FirstH1 in search (sqrtOf-fits, add-fits, sub-fits, div-fits, ofBits-fits))
+      (unfold acc0FirstTimes acc0FirstRadicand sqrtOf in
+      search (sqrtOf-fits, add-fits, sub-fits, div-fits, ofBits-fits))
       (λ t. acc0-first (m .tf) (m .p0) (m .v0) (m .a0) (m .pf) (m .vf) (m .af) a-max a-min j-max numbers
-      (acc0FirstH1 s a-max j-max)))
+      (f64Of (squareRootOf (acc0FirstRadicand s a-max j-max)))))
 
   pub acc0-second-known : Known m (acc0Second s l)
   unfolding acc0Second
   acc0-second-known =
-      let h0a = acc0SecondH0a s a-max j-max in let h0 = acc0SecondH0 j-max h0a (acc0SecondH0b s a-max j-max) in
+      let h0a = acc0SecondH0a s a-max j-max in
+      let h0 = acc0SecondH0 j-max (f64Of (squareRootOf (acc0SecondRadicand h0a (acc0SecondH0b s a-max j-max)))) in
       let h1 = acc0SecondH1 j-max h0a in
       by-j-max
       (leaving (unfold testsOf in refl)
@@ -206,4 +212,4 @@ module _ {m : Move} (n : MoveNumbers m) where
       (leaving (unfold testsOf in refl)
       (unfold acc0ThirdTimes in search (add-fits, sub-fits, div-fits, ofBits-fits))
       (λ t. acc0-third (m .tf) (m .p0) (m .v0) (m .a0) (m .pf) (m .vf) (m .af) a-max a-min j-max numbers h0a
-      (acc0ThirdH1 j-max h0a h0b) (acc0ThirdH2 j-max h0b)))
+      (acc0ThirdH1 j-max (f64Of (squareRootOf (acc0ThirdRadicand h0a h0b)))) (acc0ThirdH2 j-max h0b)))

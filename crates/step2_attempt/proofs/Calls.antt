@@ -1,22 +1,23 @@
 -- Trials in turn, and what they leave of count and cause: the count is that of the trials that called `check`, the
--- verdict is yes exactly where the cause is, where none called the profile is as it came; and neither is looked at by
--- the verdict and the Rust's record. Assumes nothing.
+-- verdict is yes exactly where the cause is, the last call alone gives the cause, where none called the profile is as
+-- it came; and neither is looked at by the verdict and the Rust's record. Assumes nothing.
 use mathlib.Core.Path.{_≡_, refl, sym, ap, _∙_}
 use mathlib.Core.Bool.{Bool, true, false, cond, true≢false}
 use mathlib.Core.List.{List, [], _∷_}
 use Prim.Native.Nat.{ℕ, suc, _+_, _≤_, _<_}
 use native.Mathlib.Nat.{add-zero}
 use native.Mathlib.Omega.{arith}
-use lib.Dec.{T, leb, lit≤}
+use lib.Dec.{lit≤}
 use lib.ListN.{length}
 use borrow.Author.Tests.{lt-ltb}
+use Rattle.labels.specs.declared.causes.Cause.{Cause}
 use Rattle.labels.specs.declared.causes.Cause.the-variants.{NoCall}
 use Rattle.labels.specs.Causes.{causeNumber, isYes, countedOf}
 use Rattle.row.specs.Row.{withTimes}
 use Rattle.profile.specs.declared.Profile.{Profile}
 use Rattle.profile.specs.declared.Checked.{Checked}
-use Rattle.profile.specs.Parts.{changed, recordOf, rustOf}
-use Rattle.profile.proofs.Causes.{one-call-more, yes-is-cause, a-call-has-a-cause, apart}
+use Rattle.profile.specs.Parts.{changed, noted, recordOf, rustOf}
+use Rattle.profile.proofs.Marks.{timing-calls, timing-verdict, timing-cause, timing-anew, timing-apart}
 use Rattle.step2_solver.specs.declared.Limits.{Limits}
 use Rattle.step2_solver.specs.declared.Trial.{Trial}
 use Rattle.step2_attempt.specs.Attempt.{sevenOf, nothing, orElse, attemptOf, tryOf, triedOf, callsOf}
@@ -28,7 +29,7 @@ module _ (l : Limits) (k : Trial) (q : Profile) where
 
   counts : (b : Bool) → q .calls < 255 → cond b (attemptOf l k q) (nothing q) .profile .calls ≡ q .calls + cond b 1 0
   unfolding attemptOf
-  counts true h = one-call-more _ _ _ _ _ _ _ _ timed ∙ rw (lt-ltb (q .calls) 255 h)
+  counts true h = timing-calls _ _ _ _ _ _ _ _ timed ∙ rw (lt-ltb (q .calls) 255 h)
   counts false h = sym (add-zero (q .calls))
 
   try-calls : q .calls < 255 → tryOf l k q .profile .calls ≡ q .calls + cond (k .made) 1 0
@@ -90,7 +91,7 @@ try-cause l k q h = by (k .made)
   where
     by : (b : Bool) → cond b (attemptOf l k q) (nothing q) .ok
         ≡ isYes (cond b (attemptOf l k q) (nothing q) .profile .cause)
-    by true = unfold attemptOf in yes-is-cause _ _ _ _ _ _ _ _ (timed l k q)
+    by true = unfold attemptOf in timing-verdict _ _ _ _ _ _ _ _ (timed l k q)
     by false = sym h
 
 pub verdict-is-cause : (l : Limits) (ks : List Trial) (q : Profile) → isYes (q .cause) ≡ false
@@ -107,21 +108,27 @@ verdict-is-cause l (k ∷ ks) q h =
     by true x e rest = e
     by false x e rest = rest (sym e)
 
+-- the last call counts: the cause before it, a mark's too, is not looked at
+pub last-counts : (l : Limits) (k : Trial) (q : Profile) (n : ℕ) (c : Cause) → k .made ≡ true
+    → tryOf l k (noted n c q) .profile .cause ≡ tryOf l k q .profile .cause
+unfolding tryOf attemptOf
+last-counts l k q n c e = rw e (timing-anew _ _ _ _ _ _ _ _ (timed l k q) n c)
+
 -- a call leaves a cause that is not 12, and no trial after it puts 12 back
 abbrev Called : Profile → Type 0
-Called q = T (leb (causeNumber (q .cause)) 11)
+Called q = causeNumber (q .cause) ≡ 12 → ⊥
 
 module _ (l : Limits) (k : Trial) (q : Profile) where
   try-called : k .made ≡ true → Called (tryOf l k q .profile)
   unfolding tryOf attemptOf
-  try-called e = rw e (a-call-has-a-cause _ _ _ _ _ _ _ _ (timed l k q))
+  try-called e = rw e (timing-cause _ _ _ _ _ _ _ _ (timed l k q))
 
   try-keeps : Called q → Called (tryOf l k q .profile)
   unfolding tryOf
   try-keeps h = by (k .made) refl
     where
       by : (b : Bool) → k .made ≡ b → Called (cond b (attemptOf l k q) (nothing q) .profile)
-      by true e = unfold attemptOf in a-call-has-a-cause _ _ _ _ _ _ _ _ (timed l k q)
+      by true e = unfold attemptOf in timing-cause _ _ _ _ _ _ _ _ (timed l k q)
       by false e = h
 
 or-called : (b : Bool) (x : Profile) (f : Profile → Checked) → Called x → (Called x → Called (f x .profile))
@@ -137,7 +144,7 @@ tried-keeps l (k ∷ ks) q h =
     or-called (c .ok) (c .profile) (triedOf l ks) (try-keeps l k q h) (tried-keeps l ks (c .profile))
 
 pub called : (l : Limits) (ks : List Trial) (q : Profile) → (callsOf l ks q ≡ 0 → ⊥)
-    → T (leb (causeNumber (triedOf l ks q .profile .cause)) 11)
+    → causeNumber (triedOf l ks q .profile .cause) ≡ 12 → ⊥
 unfolding triedOf
 called l [] q h = absurd (h refl)
 called l (k ∷ ks) q h =
@@ -166,7 +173,7 @@ unfolding tryOf
 try-apart l k x y e = by (k .made)
   where
     one : (q : Profile) → rustOf (attemptOf l k (recordOf q)) ≡ rustOf (attemptOf l k q)
-    one q = unfold attemptOf in apart _ _ _ _ _ _ _ _ (timed l k q) 0 NoCall
+    one q = unfold attemptOf in timing-apart _ _ _ _ _ _ _ _ (timed l k q) 0 NoCall
 
     by : (b : Bool) → rustOf (cond b (attemptOf l k x) (nothing x)) ≡ rustOf (cond b (attemptOf l k y) (nothing y))
     by true = sym (one x) ∙ ap (λ (r : Profile). rustOf (attemptOf l k r)) e ∙ one y

@@ -8,7 +8,7 @@ use Rattle.profile.specs.declared.Profile.{Profile}
 use Rattle.profile.specs.declared.Checked.{Checked}
 use Rattle.row.specs.Row.{withTimes}
 use Rattle.profile.specs.Parts.{changed}
-use Rattle.profile.specs.Check.{checkOf}
+use Rattle.profile.specs.Timing.{timingOf}
 use Rattle.step2_solver.specs.declared.Limits.{Limits}
 use Rattle.step2_solver.specs.declared.Times.{Times}
 use Rattle.step2_solver.specs.declared.Trial.{Trial}
@@ -19,7 +19,7 @@ sevenOf x = x .t0 ∷ x .t1 ∷ x .t2 ∷ x .t3 ∷ x .t4 ∷ x .t5 ∷ x .t6 �
 -- `check_with_timing` after profile.t is set
 unfoldable pub attemptOf : Limits → Trial → Profile → Checked
 attemptOf l k q =
-    checkOf (k .signs) (k .label) false (k .jf) (l .«v_max») (l .«v_min») (l .«a_max») (l .«a_min»)
+    timingOf (k .signs) (k .label) (k .jf) (l .«v_max») (l .«v_min») (l .«a_max») (l .«a_min») (k .marked)
     (changed (withTimes (sevenOf (k .times))) q)
 
 -- no attempt

@@ -1,7 +1,7 @@
 // A trial of a shape: its seven times, held against the goal and the limits by `check`.
 use labels::Labels;
 use profile::in_place::Verdict;
-use profile::in_place::check;
+use profile::in_place::check_with_timing;
 use row::NUMBERS;
 use row::set_times;
 use step2_solver::Limits;
@@ -29,17 +29,17 @@ pub fn tried(k: Trial, l: Limits, x: &mut [f64; NUMBERS], labels: Labels) -> Ver
                 times.t6,
             ],
         );
-        check(
+        check_with_timing(
             x,
             labels,
             signs,
             label,
-            false,
             k.jf,
             l.v_max,
             l.v_min,
             l.a_max,
             l.a_min,
+            k.marked,
         )
     } else {
         Verdict { ok: false, labels }

@@ -88,9 +88,11 @@ pub struct Times {
     pub t6: f64,
 }
 
-// An attempt as data: what is put into the profile, and what `check` is told of it.
+// An attempt as data: what is put into the profile, and what `check` is told of it. It is marked where it takes a
+// square root that does not exist.
 pub struct Trial {
     pub made: bool,
+    pub marked: bool,
     pub times: Times,
     pub signs: ControlSigns,
     pub label: ReachedLimits,
@@ -111,11 +113,18 @@ pub fn times_of(t0: f64, t1: f64, t2: f64, t3: f64, t4: f64, t5: f64, t6: f64) -
     }
 }
 
-pub fn trial_of(times: Times, signs: ControlSigns, label: ReachedLimits, jf: f64) -> Trial
-    ensures { λ r. ⌜ r ≡ trialOf times signs label jf ⌝ }
+pub fn trial_of(
+    marked: bool,
+    times: Times,
+    signs: ControlSigns,
+    label: ReachedLimits,
+    jf: f64,
+) -> Trial
+    ensures { λ r. ⌜ r ≡ trialOf marked times signs label jf ⌝ }
 {
     Trial {
         made: true,
+        marked,
         times,
         signs,
         label,
@@ -138,6 +147,7 @@ pub fn no_trial() -> Trial
     };
     Trial {
         made: false,
+        marked: false,
         times,
         signs: ControlSigns::UDDU,
         label: ReachedLimits::None,

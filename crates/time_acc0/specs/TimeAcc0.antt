@@ -3,7 +3,7 @@
 use lib.Ieee.{Float, neg}
 use Rattle.float.specs.Ops.{_⊕_, _⊖_, _⊗_, _⊘_, #0, #2, #3, #4, #6, #9, #18}
 use Rattle.float.specs.Helpers.{absOf}
-use Rattle.sqrt.specs.Sqrt.{sqrtOf}
+use Rattle.sqrt.specs.Sqrt.{squareRootOf, f64Of, isMark}
 use Rattle.step2_solver.specs.declared.PositionThirdOrderStep2.{PositionThirdOrderStep2}
 use Rattle.step2_solver.specs.declared.Times.{Times}
 use Rattle.step2_solver.specs.declared.Limits.{Limits}
@@ -14,11 +14,10 @@ use Rattle.labels.specs.declared.ControlSigns.the-variants.{UDDU, UDUD}
 
 -- First attempt: UDUD
 
-unfoldable pub acc0FirstH1 : PositionThirdOrderStep2 → («a_max» «j_max» : Float) → Float
-acc0FirstH1 s «a_max» «j_max» =
-    sqrtOf
-    (s .«ad_ad» ⊘ (#2 ⊗ s .«j_max_j_max») ⊖ s .ad ⊗ («a_max» ⊖ s .a0) ⊘ (s .«j_max_j_max»)
-    ⊕ («a_max» ⊗ s .tf ⊖ s .vd) ⊘ «j_max»)
+unfoldable pub acc0FirstRadicand : PositionThirdOrderStep2 → («a_max» «j_max» : Float) → Float
+acc0FirstRadicand s «a_max» «j_max» =
+    s .«ad_ad» ⊘ (#2 ⊗ s .«j_max_j_max») ⊖ s .ad ⊗ («a_max» ⊖ s .a0) ⊘ (s .«j_max_j_max»)
+    ⊕ («a_max» ⊗ s .tf ⊖ s .vd) ⊘ «j_max»
 
 unfoldable pub acc0FirstTimes : PositionThirdOrderStep2 → («a_max» «j_max» h1 : Float) → Times
 acc0FirstTimes s «a_max» «j_max» h1 =
@@ -33,9 +32,10 @@ acc0FirstTimes s «a_max» «j_max» h1 =
 
 unfoldable pub acc0First : PositionThirdOrderStep2 → Limits → Trial
 acc0First s l =
-    let h1 = acc0FirstH1 s (l .«a_max») (l .«j_max») in
+    let root = squareRootOf (acc0FirstRadicand s (l .«a_max») (l .«j_max»)) in
+    let h1 = f64Of root in
     let times = acc0FirstTimes s (l .«a_max») (l .«j_max») h1 in
-    trialOf times UDUD None (l .«j_max»)
+    trialOf (isMark root) times UDUD None (l .«j_max»)
 
 -- Second attempt: UDDU by its signs, where the Rust's comment says UDUD
 
@@ -55,8 +55,11 @@ acc0SecondH0b s «a_max» «j_max» =
     ⊕ «a_max» ⊗ («a_max» ⊗ s .tf ⊖ #2 ⊗ s .vd))
     ⊕ #3 ⊗ s .af ⊗ («a_max» ⊗ «a_max» ⊕ #2 ⊗ «a_max» ⊗ «j_max» ⊗ s .tf ⊖ #2 ⊗ «j_max» ⊗ s .vd)
 
-unfoldable pub acc0SecondH0 : («j_max» h0a h0b : Float) → Float
-acc0SecondH0 «j_max» h0a h0b = absOf «j_max» ⊗ sqrtOf (#4 ⊗ h0b ⊗ h0b ⊖ #18 ⊗ h0a ⊗ h0a ⊗ h0a)
+unfoldable pub acc0SecondRadicand : (h0a h0b : Float) → Float
+acc0SecondRadicand h0a h0b = #4 ⊗ h0b ⊗ h0b ⊖ #18 ⊗ h0a ⊗ h0a ⊗ h0a
+
+unfoldable pub acc0SecondH0 : («j_max» root : Float) → Float
+acc0SecondH0 «j_max» root = absOf «j_max» ⊗ root
 
 unfoldable pub acc0SecondH1 : («j_max» h0a : Float) → Float
 acc0SecondH1 «j_max» h0a = #3 ⊗ «j_max» ⊗ h0a
@@ -86,11 +89,12 @@ unfoldable pub acc0Second : PositionThirdOrderStep2 → Limits → Trial
 acc0Second s l =
     let h0a = acc0SecondH0a s (l .«a_max») (l .«j_max») in
     let h0b = acc0SecondH0b s (l .«a_max») (l .«j_max») in
-    let h0 = acc0SecondH0 (l .«j_max») h0a h0b in
+    let root = squareRootOf (acc0SecondRadicand h0a h0b) in
+    let h0 = acc0SecondH0 (l .«j_max») (f64Of root) in
     let h1 = acc0SecondH1 (l .«j_max») h0a in
     let t1 = acc0SecondT1 s (l .«a_max») (l .«j_max») h1 in
     let times = acc0SecondTimes s (l .«a_max») (l .«j_max») h0 h1 t1 in
-    trialOf times UDDU None (l .«j_max»)
+    trialOf (isMark root) times UDDU None (l .«j_max»)
 
 -- Third attempt: UDDU, Solution 1, a[3] other than 0
 
@@ -112,8 +116,11 @@ acc0ThirdH0b s «a_max» «j_max» =
     ⊕ s .«af_af»
     ⊕ #2 ⊗ («a_max» ⊗ «a_max» ⊖ (s .a0 ⊕ s .af) ⊗ «a_max» ⊕ «j_max» ⊗ (s .vd ⊖ «a_max» ⊗ s .tf))
 
-unfoldable pub acc0ThirdH1 : («j_max» h0a h0b : Float) → Float
-acc0ThirdH1 «j_max» h0a h0b = absOf «j_max» ⊘ «j_max» ⊗ sqrtOf (#4 ⊗ h0a ⊗ h0a ⊖ #18 ⊗ h0b ⊗ h0b ⊗ h0b)
+unfoldable pub acc0ThirdRadicand : (h0a h0b : Float) → Float
+acc0ThirdRadicand h0a h0b = #4 ⊗ h0a ⊗ h0a ⊖ #18 ⊗ h0b ⊗ h0b ⊗ h0b
+
+unfoldable pub acc0ThirdH1 : («j_max» root : Float) → Float
+acc0ThirdH1 «j_max» root = absOf «j_max» ⊘ «j_max» ⊗ root
 
 unfoldable pub acc0ThirdH2 : («j_max» h0b : Float) → Float
 acc0ThirdH2 «j_max» h0b = #6 ⊗ «j_max» ⊗ h0b
@@ -133,7 +140,8 @@ unfoldable pub acc0Third : PositionThirdOrderStep2 → Limits → Trial
 acc0Third s l =
     let h0a = acc0ThirdH0a s (l .«a_max») (l .«j_max») in
     let h0b = acc0ThirdH0b s (l .«a_max») (l .«j_max») in
-    let h1 = acc0ThirdH1 (l .«j_max») h0a h0b in
+    let root = squareRootOf (acc0ThirdRadicand h0a h0b) in
+    let h1 = acc0ThirdH1 (l .«j_max») (f64Of root) in
     let h2 = acc0ThirdH2 (l .«j_max») h0b in
     let times = acc0ThirdTimes s (l .«a_max») (l .«j_max») h0a h1 h2 in
-    trialOf times UDDU Acc0 (l .«j_max»)
+    trialOf (isMark root) times UDDU Acc0 (l .«j_max»)

@@ -2,6 +2,9 @@
 
 use labels::ControlSigns;
 use labels::ReachedLimits;
+use sqrt::is_mark;
+use sqrt::sqrt;
+use sqrt::to_f64;
 use step2_solver::Limits;
 use step2_solver::PositionThirdOrderStep2;
 use step2_solver::Times;
@@ -9,20 +12,18 @@ use step2_solver::Trial;
 use step2_solver::times_of;
 use step2_solver::trial_of;
 ghost use mathlib.Core.Path.{_≡_};
-ghost use Rattle.time_acc0.specs.TimeAcc0.{acc0FirstH1, acc0FirstTimes, acc0SecondH0a, acc0SecondH0b};
-ghost use Rattle.time_acc0.specs.TimeAcc0.{acc0SecondH0, acc0SecondT1, acc0SecondTimes, acc0ThirdH0a};
-ghost use Rattle.time_acc0.specs.TimeAcc0.{acc0ThirdH0b, acc0ThirdH1, acc0ThirdTimes, acc0First, acc0Second};
-ghost use Rattle.time_acc0.specs.TimeAcc0.{acc0Third};
+ghost use Rattle.time_acc0.specs.TimeAcc0.{acc0FirstRadicand, acc0FirstTimes, acc0First, acc0SecondH0a};
+ghost use Rattle.time_acc0.specs.TimeAcc0.{acc0SecondH0b, acc0SecondRadicand, acc0SecondH0, acc0SecondT1};
+ghost use Rattle.time_acc0.specs.TimeAcc0.{acc0SecondTimes, acc0Second, acc0ThirdH0a, acc0ThirdH0b};
+ghost use Rattle.time_acc0.specs.TimeAcc0.{acc0ThirdRadicand, acc0ThirdH1, acc0ThirdTimes, acc0Third};
 
 // First attempt: UDUD
 
-fn first_h1(s: PositionThirdOrderStep2, a_max: f64, j_max: f64) -> f64
-    ensures { λ r. ⌜ r ≡ acc0FirstH1 s «a_max» «j_max» ⌝ }
+fn first_radicand(s: PositionThirdOrderStep2, a_max: f64, j_max: f64) -> f64
+    ensures { λ r. ⌜ r ≡ acc0FirstRadicand s «a_max» «j_max» ⌝ }
 {
-    sqrt::sqrt(
-        s.ad_ad / (2.0 * s.j_max_j_max) - s.ad * (a_max - s.a0) / (s.j_max_j_max)
-            + (a_max * s.tf - s.vd) / j_max,
-    )
+    s.ad_ad / (2.0 * s.j_max_j_max) - s.ad * (a_max - s.a0) / (s.j_max_j_max)
+        + (a_max * s.tf - s.vd) / j_max
 }
 
 fn first_times(s: PositionThirdOrderStep2, a_max: f64, j_max: f64, h1: f64) -> Times
@@ -41,9 +42,16 @@ fn first_times(s: PositionThirdOrderStep2, a_max: f64, j_max: f64, h1: f64) -> T
 pub fn first(s: PositionThirdOrderStep2, l: Limits) -> Trial
     ensures { λ r. ⌜ r ≡ acc0First s l ⌝ }
 {
-    let h1 = first_h1(s, l.a_max, l.j_max);
+    let root = sqrt(first_radicand(s, l.a_max, l.j_max));
+    let h1 = to_f64(root);
     let times = first_times(s, l.a_max, l.j_max, h1);
-    trial_of(times, ControlSigns::UDUD, ReachedLimits::None, l.j_max)
+    trial_of(
+        is_mark(root),
+        times,
+        ControlSigns::UDUD,
+        ReachedLimits::None,
+        l.j_max,
+    )
 }
 
 // Second attempt: UDDU by its signs, where the Rust's comment says UDUD
@@ -68,10 +76,16 @@ fn second_h0b(s: PositionThirdOrderStep2, a_max: f64, j_max: f64) -> f64
         + 3.0 * s.af * (a_max * a_max + 2.0 * a_max * j_max * s.tf - 2.0 * j_max * s.vd)
 }
 
-fn second_h0(j_max: f64, h0a: f64, h0b: f64) -> f64
-    ensures { λ r. ⌜ r ≡ acc0SecondH0 «j_max» h0a h0b ⌝ }
+fn second_radicand(h0a: f64, h0b: f64) -> f64
+    ensures { λ r. ⌜ r ≡ acc0SecondRadicand h0a h0b ⌝ }
 {
-    float::abs(j_max) * sqrt::sqrt(4.0 * h0b * h0b - 18.0 * h0a * h0a * h0a)
+    4.0 * h0b * h0b - 18.0 * h0a * h0a * h0a
+}
+
+fn second_h0(j_max: f64, root: f64) -> f64
+    ensures { λ r. ⌜ r ≡ acc0SecondH0 «j_max» root ⌝ }
+{
+    float::abs(j_max) * root
 }
 
 fn second_t1(s: PositionThirdOrderStep2, a_max: f64, j_max: f64, h1: f64) -> f64
@@ -111,11 +125,18 @@ pub fn second(s: PositionThirdOrderStep2, l: Limits) -> Trial
 {
     let h0a = second_h0a(s, l.a_max, l.j_max);
     let h0b = second_h0b(s, l.a_max, l.j_max);
-    let h0 = second_h0(l.j_max, h0a, h0b);
+    let root = sqrt(second_radicand(h0a, h0b));
+    let h0 = second_h0(l.j_max, to_f64(root));
     let h1 = 3.0 * l.j_max * h0a;
     let t1 = second_t1(s, l.a_max, l.j_max, h1);
     let times = second_times(s, l.a_max, l.j_max, h0, h1, t1);
-    trial_of(times, ControlSigns::UDDU, ReachedLimits::None, l.j_max)
+    trial_of(
+        is_mark(root),
+        times,
+        ControlSigns::UDDU,
+        ReachedLimits::None,
+        l.j_max,
+    )
 }
 
 // Third attempt: UDDU, Solution 1, a[3] other than 0
@@ -142,10 +163,16 @@ fn third_h0b(s: PositionThirdOrderStep2, a_max: f64, j_max: f64) -> f64
         + 2.0 * (a_max * a_max - (s.a0 + s.af) * a_max + j_max * (s.vd - a_max * s.tf))
 }
 
-fn third_h1(j_max: f64, h0a: f64, h0b: f64) -> f64
-    ensures { λ r. ⌜ r ≡ acc0ThirdH1 «j_max» h0a h0b ⌝ }
+fn third_radicand(h0a: f64, h0b: f64) -> f64
+    ensures { λ r. ⌜ r ≡ acc0ThirdRadicand h0a h0b ⌝ }
 {
-    float::abs(j_max) / j_max * sqrt::sqrt(4.0 * h0a * h0a - 18.0 * h0b * h0b * h0b)
+    4.0 * h0a * h0a - 18.0 * h0b * h0b * h0b
+}
+
+fn third_h1(j_max: f64, root: f64) -> f64
+    ensures { λ r. ⌜ r ≡ acc0ThirdH1 «j_max» root ⌝ }
+{
+    float::abs(j_max) / j_max * root
 }
 
 fn third_times(
@@ -173,8 +200,15 @@ pub fn third(s: PositionThirdOrderStep2, l: Limits) -> Trial
 {
     let h0a = third_h0a(s, l.a_max, l.j_max);
     let h0b = third_h0b(s, l.a_max, l.j_max);
-    let h1 = third_h1(l.j_max, h0a, h0b);
+    let root = sqrt(third_radicand(h0a, h0b));
+    let h1 = third_h1(l.j_max, to_f64(root));
     let h2 = 6.0 * l.j_max * h0b;
     let times = third_times(s, l.a_max, l.j_max, h0a, h1, h2);
-    trial_of(times, ControlSigns::UDDU, ReachedLimits::Acc0, l.j_max)
+    trial_of(
+        is_mark(root),
+        times,
+        ControlSigns::UDDU,
+        ReachedLimits::Acc0,
+        l.j_max,
+    )
 }

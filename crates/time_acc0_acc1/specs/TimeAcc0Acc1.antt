@@ -1,10 +1,10 @@
 -- What `time_acc0_acc1` computes, by the Rust's names, each operation rounded once in
 -- the Rust's order and brackets, and the attempts made of it. Definitions only.
-use mathlib.Core.Bool.{Bool, cond, _&&_}
+use mathlib.Core.Bool.{Bool, false, cond, _&&_}
 use lib.Ieee.{Float, neg, lt}
 use Rattle.float.specs.Ops.{_⊕_, _⊖_, _⊗_, _⊘_, #0, #2, #3, #4, #6, #8, #12, #48, #144, #ε}
 use Rattle.float.specs.Helpers.{absOf}
-use Rattle.sqrt.specs.Sqrt.{sqrtOf}
+use Rattle.sqrt.specs.Sqrt.{squareRootOf, f64Of, isMark}
 use Rattle.step2_solver.specs.declared.PositionThirdOrderStep2.{PositionThirdOrderStep2}
 use Rattle.step2_solver.specs.declared.Times.{Times}
 use Rattle.step2_solver.specs.declared.Limits.{Limits}
@@ -49,7 +49,7 @@ acc0Acc1Rest s l =
     let jf = acc0Acc1RestJf h1 h2 in
     let t1 = acc0Acc1RestT1 s (l .«a_max») (l .«a_min») h1 h2 in
     let times = acc0Acc1RestTimes s (l .«a_max») (l .«a_min») jf t1 in
-    trialOf times UDDU Acc0Acc1 jf
+    trialOf false times UDDU Acc0Acc1 jf
 
 -- UDDU
 
@@ -76,9 +76,6 @@ acc0Acc1UdduRadicand s «a_max» «a_min» =
     ⊗ (#2 ⊗ «a_min» ⊗ s .g1
     ⊕ s .vd ⊗ s .vd
     ⊕ «a_max» ⊗ (#2 ⊗ s .pd ⊕ «a_min» ⊗ s .tf ⊗ s .tf ⊖ #2 ⊗ s .tf ⊗ s .vf))
-
-unfoldable pub acc0Acc1UdduH1 : PositionThirdOrderStep2 → («a_max» «a_min» : Float) → Float
-acc0Acc1UdduH1 s «a_max» «a_min» = sqrtOf (acc0Acc1UdduRadicand s «a_max» «a_min»)
 
 unfoldable pub acc0Acc1UdduJf : PositionThirdOrderStep2 → («a_max» «a_min» h1 : Float) → Float
 acc0Acc1UdduJf s «a_max» «a_min» h1 =
@@ -114,11 +111,12 @@ acc0Acc1UdduTimes s «a_max» «a_min» jf t1 =
 
 unfoldable pub acc0Acc1Uddu : PositionThirdOrderStep2 → Limits → Trial
 acc0Acc1Uddu s l =
-    let h1 = acc0Acc1UdduH1 s (l .«a_max») (l .«a_min») in
+    let root = squareRootOf (acc0Acc1UdduRadicand s (l .«a_max») (l .«a_min»)) in
+    let h1 = f64Of root in
     let jf = acc0Acc1UdduJf s (l .«a_max») (l .«a_min») h1 in
     let t1 = acc0Acc1UdduT1 s (l .«a_max») (l .«a_min») jf in
     let times = acc0Acc1UdduTimes s (l .«a_max») (l .«a_min») jf t1 in
-    trialOf times UDDU Acc0Acc1 jf
+    trialOf (isMark root) times UDDU Acc0Acc1 jf
 
 -- the one attempt that is made
 abbrev pub acc0Acc1Of : PositionThirdOrderStep2 → Limits → Trial

@@ -2,6 +2,9 @@
 
 use labels::ControlSigns;
 use labels::ReachedLimits;
+use sqrt::is_mark;
+use sqrt::sqrt;
+use sqrt::to_f64;
 use step2_solver::Limits;
 use step2_solver::PositionThirdOrderStep2;
 use step2_solver::Times;
@@ -10,7 +13,7 @@ use step2_solver::times_of;
 use step2_solver::trial_of;
 ghost use mathlib.Core.Path.{_≡_};
 ghost use Rattle.time_acc0_acc1.specs.TimeAcc0Acc1.{acc0Acc1RestApplies, acc0Acc1RestH1, acc0Acc1RestH2};
-ghost use Rattle.time_acc0_acc1.specs.TimeAcc0Acc1.{acc0Acc1RestT1, acc0Acc1RestTimes, acc0Acc1UdduH1};
+ghost use Rattle.time_acc0_acc1.specs.TimeAcc0Acc1.{acc0Acc1RestT1, acc0Acc1RestTimes, acc0Acc1UdduRadicand};
 ghost use Rattle.time_acc0_acc1.specs.TimeAcc0Acc1.{acc0Acc1UdduJf, acc0Acc1UdduT1, acc0Acc1UdduTimes};
 ghost use Rattle.time_acc0_acc1.specs.TimeAcc0Acc1.{acc0Acc1Rest, acc0Acc1Uddu, acc0Acc1Of};
 
@@ -63,37 +66,41 @@ fn rest(s: PositionThirdOrderStep2, l: Limits) -> Trial
     let jf = h2 / h1;
     let t1 = rest_t1(s, l.a_max, l.a_min, h1, h2);
     let times = rest_times(s, l.a_max, l.a_min, jf, t1);
-    trial_of(times, ControlSigns::UDDU, ReachedLimits::Acc0Acc1, jf)
+    trial_of(
+        false,
+        times,
+        ControlSigns::UDDU,
+        ReachedLimits::Acc0Acc1,
+        jf,
+    )
 }
 
 // UDDU
 
 // v is what the Rust hands to `pow2`.
-fn uddu_h1(s: PositionThirdOrderStep2, a_max: f64, a_min: f64) -> f64
-    ensures { λ r. ⌜ r ≡ acc0Acc1UdduH1 s «a_max» «a_min» ⌝ }
+fn uddu_radicand(s: PositionThirdOrderStep2, a_max: f64, a_min: f64) -> f64
+    ensures { λ r. ⌜ r ≡ acc0Acc1UdduRadicand s «a_max» «a_min» ⌝ }
 {
     let v = (a_max - a_min) * (-a_min * s.vd + a_max * (a_min * s.tf - s.vd))
         - s.af_af * (a_max * s.tf - s.vd)
         + 2.0 * s.af * a_min * (a_max * s.tf - s.vd)
         + s.a0_a0 * (a_min * s.tf + s.v0 - s.vf)
         - 2.0 * s.a0 * a_max * (a_min * s.tf - s.vd);
-    sqrt::sqrt(
-        144.0 * (v * v)
-            + 48.0
-                * s.ad
-                * (3.0 * s.a0_p3 - 3.0 * s.af_p3
-                    + 12.0 * a_max * a_min * (-a_max + a_min)
-                    + 4.0 * s.af_af * (a_max + 2.0 * a_min)
-                    + s.a0
-                        * (-3.0 * s.af_af
-                            + 8.0 * s.af * (a_min - a_max)
-                            + 6.0 * (a_max * a_max + 2.0 * a_max * a_min - a_min * a_min))
-                    + 6.0 * s.af * (a_max * a_max - 2.0 * a_max * a_min - a_min * a_min)
-                    + s.a0_a0 * (3.0 * s.af - 4.0 * (2.0 * a_max + a_min)))
-                * (2.0 * a_min * s.g1
-                    + s.vd * s.vd
-                    + a_max * (2.0 * s.pd + a_min * s.tf * s.tf - 2.0 * s.tf * s.vf)),
-    )
+    144.0 * (v * v)
+        + 48.0
+            * s.ad
+            * (3.0 * s.a0_p3 - 3.0 * s.af_p3
+                + 12.0 * a_max * a_min * (-a_max + a_min)
+                + 4.0 * s.af_af * (a_max + 2.0 * a_min)
+                + s.a0
+                    * (-3.0 * s.af_af
+                        + 8.0 * s.af * (a_min - a_max)
+                        + 6.0 * (a_max * a_max + 2.0 * a_max * a_min - a_min * a_min))
+                + 6.0 * s.af * (a_max * a_max - 2.0 * a_max * a_min - a_min * a_min)
+                + s.a0_a0 * (3.0 * s.af - 4.0 * (2.0 * a_max + a_min)))
+            * (2.0 * a_min * s.g1
+                + s.vd * s.vd
+                + a_max * (2.0 * s.pd + a_min * s.tf * s.tf - 2.0 * s.tf * s.vf))
 }
 
 fn uddu_jf(s: PositionThirdOrderStep2, a_max: f64, a_min: f64, h1: f64) -> f64
@@ -137,11 +144,18 @@ fn uddu_times(s: PositionThirdOrderStep2, a_max: f64, a_min: f64, jf: f64, t1: f
 fn uddu(s: PositionThirdOrderStep2, l: Limits) -> Trial
     ensures { λ r. ⌜ r ≡ acc0Acc1Uddu s l ⌝ }
 {
-    let h1 = uddu_h1(s, l.a_max, l.a_min);
+    let root = sqrt(uddu_radicand(s, l.a_max, l.a_min));
+    let h1 = to_f64(root);
     let jf = uddu_jf(s, l.a_max, l.a_min, h1);
     let t1 = uddu_t1(s, l.a_max, l.a_min, jf);
     let times = uddu_times(s, l.a_max, l.a_min, jf, t1);
-    trial_of(times, ControlSigns::UDDU, ReachedLimits::Acc0Acc1, jf)
+    trial_of(
+        is_mark(root),
+        times,
+        ControlSigns::UDDU,
+        ReachedLimits::Acc0Acc1,
+        jf,
+    )
 }
 
 // The one attempt that is made.

@@ -1,10 +1,10 @@
 -- What `time_acc0_acc1_vel` computes, by the Rust's names, each operation rounded once in
 -- the Rust's order and brackets, and the attempts made of it. Definitions only.
-use mathlib.Core.Bool.{Bool, cond}
+use mathlib.Core.Bool.{Bool, false, cond}
 use lib.Ieee.{Float, neg, lt}
 use Rattle.float.specs.Ops.{_⊕_, _⊖_, _⊗_, _⊘_, #2, #3, #4, #6, #8, #12, #24}
 use Rattle.float.specs.Helpers.{absOf}
-use Rattle.sqrt.specs.Sqrt.{sqrtOf}
+use Rattle.sqrt.specs.Sqrt.{squareRootOf, f64Of, isMark}
 use Rattle.step2_solver.specs.declared.PositionThirdOrderStep2.{PositionThirdOrderStep2}
 use Rattle.step2_solver.specs.declared.Times.{Times}
 use Rattle.step2_solver.specs.declared.Limits.{Limits}
@@ -42,9 +42,8 @@ acc0Acc1VelUdduRadicand s «a_max» «a_min» «j_max» =
     ⊕ (#4 ⊗ s .af ⊕ «a_max» ⊖ «a_min») ⊗ («a_max» ⊖ «a_min»)
     ⊕ #4 ⊗ «j_max» ⊗ («a_min» ⊖ «a_max» ⊕ «j_max» ⊗ s .tf ⊖ #2 ⊗ s .af) ⊗ s .tf
 
-unfoldable pub acc0Acc1VelUdduH1 : PositionThirdOrderStep2 → («a_max» «a_min» «j_max» : Float) → Float
-acc0Acc1VelUdduH1 s «a_max» «a_min» «j_max» =
-    sqrtOf (acc0Acc1VelUdduRadicand s «a_max» «a_min» «j_max») ⊗ absOf «j_max» ⊘ «j_max»
+unfoldable pub acc0Acc1VelUdduH1 : («j_max» root : Float) → Float
+acc0Acc1VelUdduH1 «j_max» root = root ⊗ absOf «j_max» ⊘ «j_max»
 
 unfoldable pub acc0Acc1VelUdduT1 : PositionThirdOrderStep2 → («a_max» «a_min» «j_max» h1 : Float) → Float
 acc0Acc1VelUdduT1 s «a_max» «a_min» «j_max» h1 =
@@ -67,11 +66,12 @@ acc0Acc1VelUdduTimes s «a_max» «a_min» «j_max» h1 t1 =
 
 unfoldable pub acc0Acc1VelUddu : PositionThirdOrderStep2 → Limits → Trial
 acc0Acc1VelUddu s l =
-    let h1 = acc0Acc1VelUdduH1 s (l .«a_max») (l .«a_min») (l .«j_max») in
+    let root = squareRootOf (acc0Acc1VelUdduRadicand s (l .«a_max») (l .«a_min») (l .«j_max»)) in
+    let h1 = acc0Acc1VelUdduH1 (l .«j_max») (f64Of root) in
     let t1 = acc0Acc1VelUdduT1 s (l .«a_max») (l .«a_min») (l .«j_max») h1 in
     let times = acc0Acc1VelUdduTimes s (l .«a_max») (l .«a_min») (l .«j_max») h1 t1 in
     cond (acc0Acc1VelUdduApplies s (l .«a_max») (l .«a_min») (l .«j_max»))
-    (trialOf times UDDU Acc0Acc1Vel (l .«j_max»))
+    (trialOf (isMark root) times UDDU Acc0Acc1Vel (l .«j_max»))
     noTrial
 
 -- Profile UDUD
@@ -116,5 +116,5 @@ acc0Acc1VelUdud s l =
     let t3 = acc0Acc1VelUdudT3 s (l .«a_max») (l .«j_max») in
     let times = acc0Acc1VelUdudTimes s (l .«a_max») (l .«j_max») t1 t3 in
     cond (acc0Acc1VelUdudApplies s (l .«a_max») (l .«j_max»))
-    (trialOf times UDUD Acc0Acc1Vel (l .«j_max»))
+    (trialOf false times UDUD Acc0Acc1Vel (l .«j_max»))
     noTrial

@@ -1,6 +1,6 @@
 -- What `time_acc0_vel` computes, by the Rust's names, each operation rounded once in
 -- the Rust's order and brackets, and its two attempts. Definitions only.
-use mathlib.Core.Bool.{Bool, cond}
+use mathlib.Core.Bool.{Bool, false, cond}
 use mathlib.Core.List.{List, [], _∷_}
 use lib.Ieee.{Float, neg, lt}
 use Rattle.float.specs.Ops.{_⊕_, _⊖_, _⊗_, _⊘_, #0, #2, #3, #4, #6, #12, #24, #ε}
@@ -112,7 +112,7 @@ acc0VelUddu s l w root =
     let t = acc0VelUdduNewton s (l .«a_max») (l .«j_max») root in
     let h1 = acc0VelUdduH1 s (l .«a_max») (l .«j_max») t in
     let times = acc0VelUdduTimes s (l .«a_max») (l .«j_max») t h1 in
-    cond (outsideOf w root) noTrial (trialOf times UDDU Acc0Vel (l .«j_max»))
+    cond (outsideOf w root) noTrial (trialOf false times UDDU Acc0Vel (l .«j_max»))
 
 -- Profile UDUD
 
@@ -193,4 +193,4 @@ acc0VelUdud s l w root =
     let t = acc0VelUdudNewton s (l .«a_max») (l .«j_max») root in
     let h1 = acc0VelUdudH1 s (l .«a_max») (l .«j_max») t in
     let times = acc0VelUdudTimes s (l .«a_max») (l .«j_max») t h1 in
-    cond (outsideOf w root) noTrial (trialOf times UDUD Acc0Vel (l .«j_max»))
+    cond (outsideOf w root) noTrial (trialOf false times UDUD Acc0Vel (l .«j_max»))

@@ -92,7 +92,13 @@ pub fn uddu(s: PositionThirdOrderStep2, l: Limits, w: Window, root: f64) -> Tria
     let t = uddu_newton(s, l.a_max, l.j_max, root);
     let h1 = uddu_h1(s, l.a_max, l.j_max, t);
     let times = uddu_times(s, l.a_max, l.j_max, t, h1);
-    trial_of(times, ControlSigns::UDDU, ReachedLimits::Acc0Vel, l.j_max)
+    trial_of(
+        false,
+        times,
+        ControlSigns::UDDU,
+        ReachedLimits::Acc0Vel,
+        l.j_max,
+    )
 }
 
 // Profile UDUD
@@ -159,5 +165,11 @@ pub fn udud(s: PositionThirdOrderStep2, l: Limits, w: Window, root: f64) -> Tria
     let t = udud_newton(s, l.a_max, l.j_max, root);
     let h1 = udud_h1(s, l.a_max, l.j_max, t);
     let times = udud_times(s, l.a_max, l.j_max, t, h1);
-    trial_of(times, ControlSigns::UDUD, ReachedLimits::Acc0Vel, l.j_max)
+    trial_of(
+        false,
+        times,
+        ControlSigns::UDUD,
+        ReachedLimits::Acc0Vel,
+        l.j_max,
+    )
 }

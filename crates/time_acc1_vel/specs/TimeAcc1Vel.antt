@@ -1,6 +1,6 @@
 -- What `time_acc1_vel` computes, by the Rust's names, each operation rounded once in
 -- the Rust's order and brackets, and its two attempts. Definitions only.
-use mathlib.Core.Bool.{cond}
+use mathlib.Core.Bool.{false, cond}
 use mathlib.Core.List.{List, [], _∷_}
 use lib.Ieee.{Float, neg, lt}
 use Rattle.float.specs.Ops.{_⊕_, _⊖_, _⊗_, _⊘_, #0, #2, #3, #4, #5, #6, #8, #12, #24, #16ε}
@@ -113,7 +113,7 @@ acc1VelUddu s l w root =
     let t = acc1VelUdduNewton s (l .«a_min») (l .«j_max») root in
     let h1 = acc1VelUdduH1 s (l .«a_min») (l .«j_max») t in
     let times = acc1VelUdduTimes s (l .«a_min») (l .«j_max») t h1 in
-    cond (outsideOf w root) noTrial (trialOf times UDDU Acc1Vel (l .«j_max»))
+    cond (outsideOf w root) noTrial (trialOf false times UDDU Acc1Vel (l .«j_max»))
 
 -- Profile UDUD
 
@@ -170,4 +170,4 @@ unfoldable pub acc1VelUdud : PositionThirdOrderStep2 → Limits → Window → F
 acc1VelUdud s l w root =
     let h1 = acc1VelUdudH1 s (l .«a_max») (l .«j_max») root in
     let times = acc1VelUdudTimes s (l .«a_max») (l .«j_max») root h1 in
-    cond (outsideOf w root) noTrial (trialOf times UDUD Acc1Vel (l .«j_max»))
+    cond (outsideOf w root) noTrial (trialOf false times UDUD Acc1Vel (l .«j_max»))

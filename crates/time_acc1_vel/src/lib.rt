@@ -100,7 +100,13 @@ pub fn uddu(s: PositionThirdOrderStep2, l: Limits, w: Window, root: f64) -> Tria
     let t = uddu_newton(s, l.a_min, l.j_max, root);
     let h1 = uddu_h1(s, l.a_min, l.j_max, t);
     let times = uddu_times(s, l.a_min, l.j_max, t, h1);
-    trial_of(times, ControlSigns::UDDU, ReachedLimits::Acc1Vel, l.j_max)
+    trial_of(
+        false, // a root of the quartic gives no mark
+        times,
+        ControlSigns::UDDU,
+        ReachedLimits::Acc1Vel,
+        l.j_max,
+    )
 }
 
 // Profile UDUD
@@ -133,5 +139,11 @@ pub fn udud(s: PositionThirdOrderStep2, l: Limits, w: Window, root: f64) -> Tria
     }
     let h1 = udud_h1(s, l.a_max, l.j_max, root);
     let times = udud_times(s, l.a_max, l.j_max, root, h1);
-    trial_of(times, ControlSigns::UDUD, ReachedLimits::Acc1Vel, l.j_max)
+    trial_of(
+        false,
+        times,
+        ControlSigns::UDUD,
+        ReachedLimits::Acc1Vel,
+        l.j_max,
+    )
 }

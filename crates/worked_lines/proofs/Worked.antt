@@ -10,7 +10,7 @@ use lib.ListN.{replicate}
 use lib.Ieee.{isNan, ofBits, toBits, lt, le, eq, neg, add, sub, mul, div}
 use Rattle.float.specs.Helpers.{absOf}
 use Rattle.util.specs.Integrate.{integrateOf}
-use Rattle.sqrt.specs.Sqrt.{sqrtOf}
+use Rattle.sqrt.specs.Sqrt.{squareRootOf, sqrtOf}
 use Rattle.labels.specs.Tests.{testsOf}
 use Rattle.jerks.specs.Jerks.{jerksOf}
 use Rattle.positive_set.specs.Set.{holds, insertOf, insertAllOf, intoOf, sortedOf}
@@ -20,6 +20,7 @@ use Rattle.phases.specs.Times.{sumStep, sumsOf, labelTests}
 use Rattle.limits.specs.Limits.{bandOf, accelerationsKept, velocitiesKept, endTests}
 use Rattle.phases.specs.Phase.{replacedOf, zeroInsideOf, nodeOf, phaseOf}
 use Rattle.profile.specs.Check.{checkOf}
+use Rattle.profile.specs.Timing.{timingOf}
 use Rattle.profile.specs.Boundary.{boundaryOf}
 use Rattle.rounding.specs.Value.{unit, mag, sign, val}
 use Rattle.rounding.specs.Motion.{lasts}
@@ -40,11 +41,11 @@ use Rattle.time_acc0_vel.specs.TimeAcc0Vel.{acc0VelUdudDeriv, acc0VelUdudNewton
 use Rattle.time_acc0_vel.specs.TimeAcc0Vel.{acc0VelUdudWindow, acc0VelUdud}
 use Rattle.time_acc0_acc1.specs.TimeAcc0Acc1.{acc0Acc1RestApplies, acc0Acc1RestH1, acc0Acc1RestH2, acc0Acc1RestJf}
 use Rattle.time_acc0_acc1.specs.TimeAcc0Acc1.{acc0Acc1RestT1, acc0Acc1RestTimes, acc0Acc1Rest, acc0Acc1UdduRadicand}
-use Rattle.time_acc0_acc1.specs.TimeAcc0Acc1.{acc0Acc1UdduH1, acc0Acc1UdduJf, acc0Acc1UdduT1, acc0Acc1UdduTimes}
-use Rattle.time_acc0_acc1.specs.TimeAcc0Acc1.{acc0Acc1Uddu}
-use Rattle.time_acc0.specs.TimeAcc0.{acc0FirstH1, acc0FirstTimes, acc0First, acc0SecondH0a, acc0SecondH0b, acc0SecondH0}
-use Rattle.time_acc0.specs.TimeAcc0.{acc0SecondH1, acc0SecondT1, acc0SecondTimes, acc0Second, acc0ThirdH0a}
-use Rattle.time_acc0.specs.TimeAcc0.{acc0ThirdH0b, acc0ThirdH1, acc0ThirdH2, acc0ThirdTimes, acc0Third}
+use Rattle.time_acc0_acc1.specs.TimeAcc0Acc1.{acc0Acc1UdduJf, acc0Acc1UdduT1, acc0Acc1UdduTimes, acc0Acc1Uddu}
+use Rattle.time_acc0.specs.TimeAcc0.{acc0FirstRadicand, acc0FirstTimes, acc0First, acc0SecondH0a, acc0SecondH0b}
+use Rattle.time_acc0.specs.TimeAcc0.{acc0SecondRadicand, acc0SecondH0, acc0SecondH1, acc0SecondT1, acc0SecondTimes}
+use Rattle.time_acc0.specs.TimeAcc0.{acc0Second, acc0ThirdH0a, acc0ThirdH0b, acc0ThirdRadicand, acc0ThirdH1}
+use Rattle.time_acc0.specs.TimeAcc0.{acc0ThirdH2, acc0ThirdTimes, acc0Third}
 use Rattle.step2_quartics.specs.Quartics.{acc1VelQuarticsOf, acc0VelQuarticsOf}
 use Rattle.step2_attempt.specs.Attempt.{attemptOf, tryOf, triedOf}
 use Rattle.line_kinds.specs.declared.Asks.the-variants.{OfShape}
@@ -118,24 +119,24 @@ owns =
 
 -- in one list, so that they are computed by one proof
 all-own : T (all owns)
-unfolding isNan ofBits toBits lt le eq neg add sub mul div absOf integrateOf sqrtOf holds insertOf insertAllOf intoOf
-    sortedOf needOf factorsOf quadraticOf withoutCdOf withCbrtOf resolvedOf offeredOf rootsOf testsOf jerksOf run
-    sumStep sumsOf labelTests bandOf replacedOf zeroInsideOf nodeOf phaseOf accelerationsKept velocitiesKept endTests
-    checkOf boundaryOf newOf
-    acc0Acc1VelUdduApplies acc0Acc1VelUdduRadicand acc0Acc1VelUdduH1 acc0Acc1VelUdduT1 acc0Acc1VelUdduTimes
-    acc0Acc1VelUddu acc0Acc1VelUdudApplies acc0Acc1VelUdudT1 acc0Acc1VelUdudT3 acc0Acc1VelUdudTimes acc0Acc1VelUdud
-    acc1VelTMin acc1VelUdduPolynom acc1VelUdduTMax acc1VelUdduOrig acc1VelUdduDeriv acc1VelUdduNewton acc1VelUdduH1
-    acc1VelUdduTimes acc1VelUdduWindow acc1VelUddu acc1VelUdudPolynom acc1VelUdudTMax acc1VelUdudH1 acc1VelUdudTimes
-    acc1VelUdudWindow acc1VelUdud acc0VelTooShort acc0VelPh1 acc0VelUdduPolynom acc0VelUdduTMin acc0VelUdduTMax
-    acc0VelUdduOrig acc0VelUdduDeriv acc0VelUdduNewton acc0VelUdduH1 acc0VelUdduTimes acc0VelUdduWindow acc0VelUddu
-    acc0VelUdudPolynom acc0VelUdudTMin acc0VelUdudTMax acc0VelUdudOrig acc0VelUdudDeriv acc0VelUdudNewton
-    acc0VelUdudH1 acc0VelUdudTimes acc0VelUdudWindow acc0VelUdud acc0Acc1RestApplies acc0Acc1RestH1 acc0Acc1RestH2
-    acc0Acc1RestJf acc0Acc1RestT1 acc0Acc1RestTimes acc0Acc1Rest acc0Acc1UdduRadicand acc0Acc1UdduH1 acc0Acc1UdduJf
-    acc0Acc1UdduT1 acc0Acc1UdduTimes acc0Acc1Uddu acc0FirstH1 acc0FirstTimes acc0First acc0SecondH0a acc0SecondH0b
-    acc0SecondH0 acc0SecondH1 acc0SecondT1 acc0SecondTimes acc0Second acc0ThirdH0a acc0ThirdH0b acc0ThirdH1
-    acc0ThirdH2 acc0ThirdTimes acc0Third acc1VelQuarticsOf acc0VelQuarticsOf attemptOf tryOf triedOf rowOf wordAt
-    moveOf rootAnswerOf headOf rowsOf replyBytesOf bothSuit countsFit countsSuit questionsOf shapeLineOf replyOf
-    repliedOf answerOf unit mag sign val lasts
+unfolding isNan ofBits toBits lt le eq neg add sub mul div absOf integrateOf squareRootOf sqrtOf holds insertOf
+    insertAllOf intoOf sortedOf needOf factorsOf quadraticOf withoutCdOf withCbrtOf resolvedOf offeredOf rootsOf
+    testsOf jerksOf run sumStep sumsOf labelTests bandOf replacedOf zeroInsideOf nodeOf phaseOf accelerationsKept
+    velocitiesKept endTests checkOf timingOf boundaryOf newOf acc0Acc1VelUdduApplies acc0Acc1VelUdduRadicand
+    acc0Acc1VelUdduH1 acc0Acc1VelUdduT1 acc0Acc1VelUdduTimes acc0Acc1VelUddu acc0Acc1VelUdudApplies acc0Acc1VelUdudT1
+    acc0Acc1VelUdudT3 acc0Acc1VelUdudTimes acc0Acc1VelUdud acc1VelTMin acc1VelUdduPolynom acc1VelUdduTMax
+    acc1VelUdduOrig acc1VelUdduDeriv acc1VelUdduNewton acc1VelUdduH1 acc1VelUdduTimes acc1VelUdduWindow acc1VelUddu
+    acc1VelUdudPolynom acc1VelUdudTMax acc1VelUdudH1 acc1VelUdudTimes acc1VelUdudWindow acc1VelUdud acc0VelTooShort
+    acc0VelPh1 acc0VelUdduPolynom acc0VelUdduTMin acc0VelUdduTMax acc0VelUdduOrig acc0VelUdduDeriv acc0VelUdduNewton
+    acc0VelUdduH1 acc0VelUdduTimes acc0VelUdduWindow acc0VelUddu acc0VelUdudPolynom acc0VelUdudTMin acc0VelUdudTMax
+    acc0VelUdudOrig acc0VelUdudDeriv acc0VelUdudNewton acc0VelUdudH1 acc0VelUdudTimes acc0VelUdudWindow acc0VelUdud
+    acc0Acc1RestApplies acc0Acc1RestH1 acc0Acc1RestH2 acc0Acc1RestJf acc0Acc1RestT1 acc0Acc1RestTimes acc0Acc1Rest
+    acc0Acc1UdduRadicand acc0Acc1UdduJf acc0Acc1UdduT1 acc0Acc1UdduTimes acc0Acc1Uddu acc0FirstRadicand acc0FirstTimes
+    acc0First acc0SecondH0a acc0SecondH0b acc0SecondRadicand acc0SecondH0 acc0SecondH1 acc0SecondT1 acc0SecondTimes
+    acc0Second acc0ThirdH0a acc0ThirdH0b acc0ThirdRadicand acc0ThirdH1 acc0ThirdH2 acc0ThirdTimes acc0Third
+    acc1VelQuarticsOf acc0VelQuarticsOf attemptOf tryOf triedOf rowOf wordAt moveOf rootAnswerOf headOf rowsOf
+    replyBytesOf bothSuit countsFit countsSuit questionsOf shapeLineOf replyOf repliedOf answerOf unit mag sign val
+    lasts
 all-own = tt
 
 -- the kind of the attempt's line asks the shape that makes it

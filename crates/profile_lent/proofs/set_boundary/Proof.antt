@@ -1,5 +1,5 @@
 -- The record that `set_boundary` leaves is `boundaryOf` of the record that stood there. Assumes nothing.
--- The MIR is walked as that of `check`; the by-value `set_boundary` answers with the record itself.
+-- The MIR is walked as in `ByValue`; the by-value `set_boundary` answers with the record itself.
 use mathlib.Core.Path.{_≡_, refl, ap, subst}
 use Prim.Native.Nat.{ℕ}
 use mathlib.Core.List.{[], _∷_, List}
@@ -44,7 +44,7 @@ use Rattle.profile.proofs.Profile.set_boundary as by-value
 use Rattle.profile.proofs.Profile.set_boundary.Symbol as by-value-def
 use Rattle.profile.proofs.Profile.set_boundary.Symbol.{name as #profile·Profile·set-boundary}
 use Rattle.profile.proofs.Profile.set_boundary.Met as by-value-thm
-use Rattle.profile_lent.proofs.Plain.{Plains, Fit, number, spells, tellss, vals, stays, goes, typed}
+use Rattle.profile_lent.proofs.Plain.{Plains, Fit, number, spells, tellss, vals, stays, ends, goes, typed}
 use Rattle.profile_lent.proofs.Operands.{whole-of, local, reads, hands}
 use Rattle.profile_lent.proofs.Lent.{mach, Stands, stands-typed, opened, closed, handed}
 use Rattle.profile_lent.proofs.set_boundary.Key.{name as #profile-lent·set-boundary}
@@ -95,7 +95,7 @@ module _ {M : Type 1} (𝓤 : URA M) (H : Heap 𝓤) (A : Atoms 𝓤) (W : Given
   exits r said =
       qed W (‵ (fobs γ (T.the-row .coded .code r)) ∷ ‵ (fbor κ (Body (mem T.the-row) b o γ)) ∷ ‵ (flft κ q) ∷ []) ∵
       suffices ! _ (ends-at 𝓤 H A f.ended stayed (f.clauses 𝓤 H A mem″ run) W (((κ, tt), (q, tt), tt, x, at), tt) vunit
-      tt (r, (tt, (tt, (tt, (tt, (tt, (tt, tt))))))) (tt, (tt, (tt, (tt, (tt, (tt, (tt, tt)))))))) $ says ! said $
+      tt (r, ends Rest rest e) (tt, (tt, (tt, (tt, (tt, (tt, (tt, tt)))))))) $ says ! said $
       use3 W ((‵ (flft κ q) ⊛ ‵ ftrue) ⊛ ‵ (owns (MutRef (named 0) κ T.the-row ∷ Rest)
       (record { ptr = (b, o); name = γ; now = r }, e) at)) (handed 𝓤 H A W κ q b o γ r Rest rest e fit) $
       split ! $ frame ! $ frame ! $ feqI ! (List Val) (vunit ∷ []) (vunit ∷ []) refl $ done !

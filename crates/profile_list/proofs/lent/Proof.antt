@@ -49,7 +49,7 @@ use Rattle.profile_lent.proofs.check_with_timing.Symbol as with-timing-def
 use Rattle.profile_lent.proofs.check_with_timing.Symbol.{name as #profile-lent·check-with-timing}
 use Rattle.profile_lent.proofs.check_with_timing.Met as with-timing-thm
 use Rattle.profile_lent.proofs.Plain.{Plain, Plains, Fit, signs, limits, truth, number, spells, tellss, vals, stays}
-use Rattle.profile_lent.proofs.Plain.{goes, made, typed}
+use Rattle.profile_lent.proofs.Plain.{ends, goes, made, typed}
 use Rattle.profile_lent.proofs.Operands.{hands}
 use Rattle.profile_lent.proofs.Lent.{mach, Stands, stands-typed}
 use Rattle.profile_list.proofs.Lending.{ref, bound, asks, answers, lends-to}
@@ -67,23 +67,31 @@ Bounds = f64 ∷ f64 ∷ f64 ∷ f64 ∷ f64 ∷ f64 ∷ []
 abbrev bounds : Plains Bounds
 bounds = (number, (number, (number, (number, (number, (number, tt))))))
 
-abbrev Five : List RattleType
-Five = f64 ∷ f64 ∷ f64 ∷ f64 ∷ f64 ∷ []
-
-abbrev five : Plains Five
-five = (number, (number, (number, (number, (number, tt)))))
-
 abbrev Tests : List RattleType
-Tests = S.the-row ∷ L.the-row ∷ bool ∷ Five
+Tests = S.the-row ∷ L.the-row ∷ bool ∷ f64 ∷ f64 ∷ f64 ∷ f64 ∷ f64 ∷ []
 
 abbrev tests : Plains Tests
-tests = (signs, (limits, (truth, five)))
+tests = (signs, (limits, (truth, (number, (number, (number, (number, (number, tt))))))))
+
+-- the numbers, and the mark after them
+abbrev Marked : List RattleType
+Marked = f64 ∷ f64 ∷ f64 ∷ f64 ∷ f64 ∷ bool ∷ []
+
+abbrev marked : Plains Marked
+marked = (number, (number, (number, (number, (number, (truth, tt))))))
 
 abbrev Timing : List RattleType
-Timing = S.the-row ∷ L.the-row ∷ Five
+Timing = S.the-row ∷ L.the-row ∷ Marked
 
 abbrev timing : Plains Timing
-timing = (signs, (limits, five))
+timing = (signs, (limits, marked))
+
+-- what `lent` takes for both: set_limits is the first's alone, the mark the second's
+abbrev Both : List RattleType
+Both = S.the-row ∷ L.the-row ∷ bool ∷ Marked
+
+abbrev both : Plains Both
+both = (signs, (limits, (truth, marked)))
 
 abbrev whole : Plain T.the-row
 whole = record {
@@ -91,25 +99,32 @@ whole = record {
   tells = LL.tells T.the-type T′.the-laws;
   makes = λ M 𝓤 H A W. LL.makes T.the-type T′.the-plain 𝓤 H A;
   lawful = λ M 𝓤 H A W. LL.lawful T.the-type T′.the-laws 𝓤 H A W;
+  last = λ x. tt;
   silent = λ x w. refl;
 }
 
 -- all parameters: the record, its boundary, and what it is checked for
 abbrev Params : List RattleType
-Params = T.the-row ∷ f64 ∷ f64 ∷ f64 ∷ f64 ∷ f64 ∷ f64 ∷ Tests
+Params = T.the-row ∷ f64 ∷ f64 ∷ f64 ∷ f64 ∷ f64 ∷ f64 ∷ Both
 
 abbrev params : Plains Params
-params = (whole, (number, (number, (number, (number, (number, (number, tests)))))))
+params = (whole, (number, (number, (number, (number, (number, (number, both)))))))
 
 abbrev to-bounds : Denots Params → Denots Bounds
 to-bounds e =
     (e .1 .0, (e .1 .1 .0, (e .1 .1 .1 .0, (e .1 .1 .1 .1 .0, (e .1 .1 .1 .1 .1 .0, (e .1 .1 .1 .1 .1 .1 .0, tt))))))
 
+abbrev to-both : Denots Params → Denots Both
+to-both e = e .1 .1 .1 .1 .1 .1 .1
+
 abbrev to-tests : Denots Params → Denots Tests
-to-tests e = e .1 .1 .1 .1 .1 .1 .1
+to-tests e =
+    let c = to-both e in
+    let n = c .1 .1 .1 in
+    (c .0, (c .1 .0, (c .1 .1 .0, (n .0, (n .1 .0, (n .1 .1 .0, (n .1 .1 .1 .0, (n .1 .1 .1 .1 .0, tt))))))))
 
 abbrev to-timing : Denots Params → Denots Timing
-to-timing e = (to-tests e .0, (to-tests e .1 .0, to-tests e .1 .1 .1))
+to-timing e = (to-both e .0, (to-both e .1 .0, to-both e .1 .1 .1))
 
 abbrev stayed : Stays (f.ended .signature .params) (f.ended .kept)
 stayed = stays 0 Params
@@ -137,11 +152,17 @@ module _ {M : Type 1} (𝓤 : URA M) (H : Heap 𝓤) (A : Atoms 𝓤) (W : Given
       let from-a0 = fit .1 .1 .1 in
       (fit .1 .0, (fit .1 .1 .0, (from-a0 .0, (from-a0 .1 .0, (from-a0 .1 .1 .0, (from-a0 .1 .1 .1 .0, tt))))))
 
+  fit-both : Fit Both both (to-both e)
+  fit-both = fit .1 .1 .1 .1 .1 .1 .1
+
   fit-tests : Fit Tests tests (to-tests e)
-  fit-tests = fit .1 .1 .1 .1 .1 .1 .1
+  fit-tests =
+      let c = fit-both in
+      let n = c .1 .1 .1 in
+      (c .0, (c .1 .0, (c .1 .1 .0, (n .0, (n .1 .0, (n .1 .1 .0, (n .1 .1 .1 .0, (n .1 .1 .1 .1 .0, tt))))))))
 
   fit-timing : Fit Timing timing (to-timing e)
-  fit-timing = (fit-tests .0, (fit-tests .1 .0, fit-tests .1 .1 .1))
+  fit-timing = (fit-both .0, (fit-both .1 .0, fit-both .1 .1 .1))
 
   abbrev twice : Bool → Profile → Bool → Profile → Twice
   twice ok left again last = record { ok = ok; left = left; again = again; last = last }
@@ -152,9 +173,8 @@ module _ {M : Type 1} (𝓤 : URA M) (H : Heap 𝓤) (A : Atoms 𝓤) (W : Given
   exits : (r : Twice) → Stands (r .left) → Stands (r .last) → ent 𝓤 (emp 𝓤) (Post (LL.val R.the-type R′.the-laws r))
   exits r left last =
       qed W [] ∵ suffices ! _ (ends-at 𝓤 H A f.ended stayed (f.clauses 𝓤 H A mem″ run) W ((tt, tt, tt, e, at), tt)
-      (LL.val R.the-type R′.the-laws r) r
-      (tt, (tt, (tt, (tt, (tt, (tt, (tt, (tt, (tt, (tt, (tt, (tt, (tt, (tt, (tt, tt)))))))))))))))
-      (tt, (tt, (tt, (tt, (tt, (tt, (tt, (tt, (tt, (tt, (tt, (tt, (tt, (tt, (tt, tt)))))))))))))))) $
+      (LL.val R.the-type R′.the-laws r) r (ends Params params e)
+      (tt, (tt, (tt, (tt, (tt, (tt, (tt, (tt, (tt, (tt, (tt, (tt, (tt, (tt, (tt, (tt, tt))))))))))))))))) $
       owned ! R.the-row (Is R.the-row) (LL.makes R.the-type R′.the-plain 𝓤 H A) r _ (stands r left last) $
       use0 W (‵ (owns Params e at)) (made 𝓤 H A W Params params e fit) $ join ! $ nothing ! $ join ! $ frame ! $ done !
 
@@ -162,7 +182,7 @@ module _ {M : Type 1} (𝓤 : URA M) (H : Heap 𝓤) (A : Atoms 𝓤) (W : Given
       (known₁ : Triple 𝓤 (C #profile-lent·set-boundary) (SetBoundary 𝓤 H A mem″ run))
       (known₂ : Triple 𝓤 (C #profile-lent·check) (Check 𝓤 H A mem″ run))
       (known₃ : Triple 𝓤 (C #profile-lent·check-with-timing) (WithTiming 𝓤 H A mem″ run)) where
-    walk : Typed (mirs Params) (flat Params at) → Typed (mirs Tests) (flat Tests (vals Tests tests (to-tests e)))
+    walk : Typed (mirs Params) (flat Params at) → Typed (mirs Both) (flat Both (vals Both both (to-both e)))
         → ent 𝓤 (onEntry 𝓤 H A f.signature tt tt e at) (WpFn 𝓤 H C Λ code.function (flat Params at) Post)
     walk ts us =
         qed W (‵ ftrue ∷ ‵ (owns Params e at) ∷ []) ∵ drop ! $ drop ! $
@@ -173,73 +193,75 @@ module _ {M : Type 1} (𝓤 : URA M) (H : Heap 𝓤) (A : Atoms 𝓤) (W : Given
         alloc1 ! (λ l₁₂. alloc1 ! (λ l₁₃. alloc1 ! (λ l₁₄. alloc1 ! (λ l₁₅.
         alloc1 ! (λ l₁₆. alloc1 ! (λ l₁₇. alloc1 ! (λ l₁₈. alloc1 ! (λ l₁₉.
         alloc1 ! (λ l₂₀. alloc1 ! (λ l₂₁. alloc1 ! (λ l₂₂. alloc1 ! (λ l₂₃.
-        alloc1 ! (λ l₂₄. alloc0 ! $ params1 ! $
-        pass1 ! (init ! 46 refl (ts .0)) $ pass1 ! (init ! 44 refl (ts .1 .0)) $
-        pass1 ! (init ! 42 refl (ts .1 .1 .0)) $ pass1 ! (init ! 40 refl (ts .1 .1 .1 .0)) $
-        pass1 ! (init ! 38 refl (ts .1 .1 .1 .1 .0)) $ pass1 ! (init ! 36 refl (ts .1 .1 .1 .1 .1 .0)) $
-        pass1 ! (init ! 34 refl (ts .1 .1 .1 .1 .1 .1 .0)) $ pass1 ! (init ! 32 refl (us .0)) $
-        pass1 ! (init ! 30 refl (us .1 .0)) $ pass1 ! (init ! 28 refl (us .1 .1 .0)) $
-        pass1 ! (init ! 26 refl (us .1 .1 .1 .0)) $ pass1 ! (init ! 24 refl (us .1 .1 .1 .1 .0)) $
-        pass1 ! (init ! 22 refl (us .1 .1 .1 .1 .1 .0)) $ pass1 ! (init ! 20 refl (us .1 .1 .1 .1 .1 .1 .0)) $
-        pass1 ! (init ! 18 refl (us .1 .1 .1 .1 .1 .1 .1 .0)) $ pass0 ! $
-        -- [_24; …; _0; …]
-        assigns ! (of-opd ! (load ! (from ! (stop !)) (look ! 46 refl))) (from ! (stop !)) (init ! 16 refl (ts .0)) $
+        alloc1 ! (λ l₂₄. alloc1 ! (λ l₂₅. alloc0 ! $ params1 ! $
+        pass1 ! (init ! 48 refl (ts .0)) $ pass1 ! (init ! 46 refl (ts .1 .0)) $
+        pass1 ! (init ! 44 refl (ts .1 .1 .0)) $ pass1 ! (init ! 42 refl (ts .1 .1 .1 .0)) $
+        pass1 ! (init ! 40 refl (ts .1 .1 .1 .1 .0)) $ pass1 ! (init ! 38 refl (ts .1 .1 .1 .1 .1 .0)) $
+        pass1 ! (init ! 36 refl (ts .1 .1 .1 .1 .1 .1 .0)) $ pass1 ! (init ! 34 refl (us .0)) $
+        pass1 ! (init ! 32 refl (us .1 .0)) $ pass1 ! (init ! 30 refl (us .1 .1 .0)) $
+        pass1 ! (init ! 28 refl (us .1 .1 .1 .0)) $ pass1 ! (init ! 26 refl (us .1 .1 .1 .1 .0)) $
+        pass1 ! (init ! 24 refl (us .1 .1 .1 .1 .1 .0)) $ pass1 ! (init ! 22 refl (us .1 .1 .1 .1 .1 .1 .0)) $
+        pass1 ! (init ! 20 refl (us .1 .1 .1 .1 .1 .1 .1 .0)) $
+        pass1 ! (init ! 18 refl (us .1 .1 .1 .1 .1 .1 .1 .1 .0)) $ pass0 ! $
+        -- [_25; …; _0; …]
+        assigns ! (of-opd ! (load ! (from ! (stop !)) (look ! 48 refl))) (from ! (stop !)) (init ! 16 refl (ts .0)) $
         assigns ! (addr ! (from ! (stop !))) (from ! (stop !)) (init ! 6 refl (tt, tt)) $ move ! (16 ∷ []) $
-        lends-to ! fm (SetBoundary 𝓤 H A mem″ run) known₁ unit l₁₆ (e .0) (fit .0)
-        (λ ν γ. bound l₁₆ ν γ (e .0) Bounds bounds (to-bounds e))
-        (λ ν γ. asks 𝓤 H A W l₁₆ ν γ (e .0) Bounds bounds (to-bounds e) fit-bounds)
+        lends-to ! fm (SetBoundary 𝓤 H A mem″ run) known₁ unit l₁₇ (e .0) (fit .0)
+        (λ ν γ. bound l₁₇ ν γ (e .0) Bounds bounds (to-bounds e))
+        (λ ν γ. asks 𝓤 H A W l₁₇ ν γ (e .0) Bounds bounds (to-bounds e) fit-bounds)
         (λ ν γ v. answers 𝓤 H A W set-boundary.ended (set-boundary.clauses 𝓤 H A mem″ run) (ν ∷ [], tt)
-        (ref l₁₆ γ (e .0), to-bounds e) tt ν γ v (λ w. w .0) (λ w. (_, refl)))
-        (λ ν γ. hands ! 45 2 (flat Bounds (vals Bounds bounds (to-bounds e)))
-        (refl, (refl, (refl, (refl, (refl, (refl, tt)))))) 8 21 (vptr l₁₆ 0) refl
-        (vptr l₁₆ 0 ∷ flat Bounds (vals Bounds bounds (to-bounds e))) refl) (λ v₁ r₁ h₁ is₁ stands₁.
+        (ref l₁₇ γ (e .0), to-bounds e) tt ν γ v (λ w. w .0) (λ w. (_, refl)))
+        (λ ν γ. hands ! 47 2 (flat Bounds (vals Bounds bounds (to-bounds e)))
+        (refl, (refl, (refl, (refl, (refl, (refl, tt)))))) 8 22 (vptr l₁₇ 0) refl
+        (vptr l₁₇ 0 ∷ flat Bounds (vals Bounds bounds (to-bounds e))) refl) (λ v₁ r₁ h₁ is₁ stands₁.
         land ! (from ! (stop !)) (init ! 9 refl (nothing-lawful 𝓤 H A W .typed r₁ _ is₁ .0)) $
         assigns ! (addr ! (from ! (stop !))) (from ! (stop !)) (init ! 5 refl (tt, tt)) $
-        lends-to ! fm (Check 𝓤 H A mem″ run) known₂ bool l₁₆ h₁ stands₁
-        (λ ν γ. bound l₁₆ ν γ h₁ Tests tests (to-tests e))
-        (λ ν γ. asks 𝓤 H A W l₁₆ ν γ h₁ Tests tests (to-tests e) fit-tests)
-        (λ ν γ v. answers 𝓤 H A W check.ended (check.clauses 𝓤 H A mem″ run) (ν ∷ [], tt) (ref l₁₆ γ h₁, to-tests e) tt
+        lends-to ! fm (Check 𝓤 H A mem″ run) known₂ bool l₁₇ h₁ stands₁
+        (λ ν γ. bound l₁₇ ν γ h₁ Tests tests (to-tests e))
+        (λ ν γ. asks 𝓤 H A W l₁₇ ν γ h₁ Tests tests (to-tests e) fit-tests)
+        (λ ν γ v. answers 𝓤 H A W check.ended (check.clauses 𝓤 H A mem″ run) (ν ∷ [], tt) (ref l₁₇ γ h₁, to-tests e) tt
         ν γ v (λ w. w .0) (λ w. (_, refl)))
-        (λ ν γ. hands ! 33 8 (flat Tests (vals Tests tests (to-tests e)))
-        (refl, (refl, (refl, (refl, (refl, (refl, (refl, (refl, tt)))))))) 6 22 (vptr l₁₆ 0) refl
-        (vptr l₁₆ 0 ∷ flat Tests (vals Tests tests (to-tests e))) refl) (λ v₂ ok h₂ is₂ stands₂.
+        (λ ν γ. hands ! 35 8 (flat Both (vals Both both (to-both e)))
+        (refl, (refl, (refl, (refl, (refl, (refl, (refl, (refl, (refl, tt))))))))) 6 23 (vptr l₁₇ 0) refl
+        (vptr l₁₇ 0 ∷ flat Tests (vals Tests tests (to-tests e))) refl) (λ v₂ ok h₂ is₂ stands₂.
         land ! (from ! (stop !)) (init ! 15 refl (bool-lawful 𝓤 H A W .typed ok _ is₂ .0)) $
-        rewrite ! 15 (λ (w : Val). ‵ (fat fullShare tyBool l₁₇ 0 w)) (ap only (bool-tells ok (v₂ ∷ []) is₂)) refl $
+        rewrite ! 15 (λ (w : Val). ‵ (fat fullShare tyBool l₁₈ 0 w)) (ap only (bool-tells ok (v₂ ∷ []) is₂)) refl $
         assigns ! (of-opd ! (load ! (from ! (stop !)) (look ! 0 refl))) (from ! (stop !))
         (init ! 13 refl (stands-typed 𝓤 H A W h₂ stands₂)) $
         assigns ! (addr ! (from ! (stop !))) (from ! (stop !)) (init ! 3 refl (tt, tt)) $
-        lends-to ! fm (WithTiming 𝓤 H A mem″ run) known₃ bool l₁₆ h₂ stands₂
-        (λ ν γ. bound l₁₆ ν γ h₂ Timing timing (to-timing e))
-        (λ ν γ. asks 𝓤 H A W l₁₆ ν γ h₂ Timing timing (to-timing e) fit-timing)
+        lends-to ! fm (WithTiming 𝓤 H A mem″ run) known₃ bool l₁₇ h₂ stands₂
+        (λ ν γ. bound l₁₇ ν γ h₂ Timing timing (to-timing e))
+        (λ ν γ. asks 𝓤 H A W l₁₇ ν γ h₂ Timing timing (to-timing e) fit-timing)
         (λ ν γ v. answers 𝓤 H A W with-timing.ended (with-timing.clauses 𝓤 H A mem″ run) (ν ∷ [], tt)
-        (ref l₁₆ γ h₂, to-timing e) tt ν γ v (λ w. w .0) (λ w. (_, refl)))
-        (λ ν γ. hands ! 33 8 (flat Tests (vals Tests tests (to-tests e)))
-        (refl, (refl, (refl, (refl, (refl, (refl, (refl, (refl, tt)))))))) 4 23 (vptr l₁₆ 0) refl
-        (vptr l₁₆ 0 ∷ flat Timing (vals Timing timing (to-timing e))) refl) (λ v₃ again h₃ is₃ stands₃.
+        (ref l₁₇ γ h₂, to-timing e) tt ν γ v (λ w. w .0) (λ w. (_, refl)))
+        (λ ν γ. hands ! 35 8 (flat Both (vals Both both (to-both e)))
+        (refl, (refl, (refl, (refl, (refl, (refl, (refl, (refl, (refl, tt))))))))) 4 24 (vptr l₁₇ 0) refl
+        (vptr l₁₇ 0 ∷ flat Timing (vals Timing timing (to-timing e))) refl) (λ v₃ again h₃ is₃ stands₃.
         land ! (from ! (stop !)) (init ! 11 refl (bool-lawful 𝓤 H A W .typed again _ is₃ .0)) $
-        rewrite ! 11 (λ (w : Val). ‵ (fat fullShare tyBool l₁₉ 0 w)) (ap only (bool-tells again (v₃ ∷ []) is₃)) refl $
+        rewrite ! 11 (λ (w : Val). ‵ (fat fullShare tyBool l₂₀ 0 w)) (ap only (bool-tells again (v₃ ∷ []) is₃)) refl $
         assigns ! (of-opd ! (load ! (from ! (stop !)) (look ! 0 refl))) (from ! (stop !))
         (init ! 1 refl (stands-typed 𝓤 H A W h₃ stands₃)) $
-        assigns ! (agg ! (hands ! 15 17 (vbool ok ∷ mach h₂ ∷ vbool again ∷ []) (refl, (refl, (refl, tt))) 1 24
+        assigns ! (agg ! (hands ! 15 18 (vbool ok ∷ mach h₂ ∷ vbool again ∷ []) (refl, (refl, (refl, tt))) 1 25
         (mach h₃) refl (vbool ok ∷ mach h₂ ∷ vbool again ∷ mach h₃ ∷ []) refl)) (from ! (stop !))
-        (init ! 48 refl (LL.lawful R.the-type R′.the-laws 𝓤 H A W .typed (twice ok h₂ again h₃) _
+        (init ! 50 refl (LL.lawful R.the-type R′.the-laws 𝓤 H A W .typed (twice ok h₂ again h₃) _
         (stands (twice ok h₂ again h₃) stands₂ stands₃) .0)) $
-        -- [_16; _24; …; _17; …; _15; …; _0; …]
-        returns ! (look ! 48 refl) $ forget ! 0 refl $ forget ! 1 refl $ forget ! 3 refl $ forget ! 5 refl $
+        -- [_17; _25; …; _18; …; _16; …; _0; …]
+        returns ! (look ! 50 refl) $ forget ! 0 refl $ forget ! 1 refl $ forget ! 3 refl $ forget ! 5 refl $
         forget ! 7 refl $ forget ! 9 refl $ forget ! 11 refl $ forget ! 13 refl $ forget ! 15 refl $ forget ! 18 refl $
         forget ! 20 refl $ forget ! 22 refl $ forget ! 24 refl $ forget ! 26 refl $ forget ! 28 refl $
         forget ! 30 refl $ forget ! 32 refl $ forget ! 34 refl $ forget ! 36 refl $ forget ! 38 refl $
         forget ! 40 refl $ forget ! 42 refl $ forget ! 44 refl $ forget ! 46 refl $ forget ! 48 refl $
-        move ! (48 ∷ 49 ∷ []) $ free1 ! $ move ! (46 ∷ 47 ∷ []) $ free1 ! $ move ! (44 ∷ 45 ∷ []) $ free1 ! $
-        move ! (42 ∷ 43 ∷ []) $ free1 ! $ move ! (40 ∷ 41 ∷ []) $ free1 ! $ move ! (38 ∷ 39 ∷ []) $ free1 ! $
-        move ! (36 ∷ 37 ∷ []) $ free1 ! $ move ! (34 ∷ 35 ∷ []) $ free1 ! $ move ! (32 ∷ 33 ∷ []) $ free1 ! $
-        move ! (30 ∷ 31 ∷ []) $ free1 ! $ move ! (28 ∷ 29 ∷ []) $ free1 ! $ move ! (26 ∷ 27 ∷ []) $ free1 ! $
-        move ! (24 ∷ 25 ∷ []) $ free1 ! $ move ! (22 ∷ 23 ∷ []) $ free1 ! $ move ! (20 ∷ 21 ∷ []) $ free1 ! $
-        move ! (18 ∷ 19 ∷ []) $ free1 ! $ move ! (0 ∷ 17 ∷ []) $ free1 ! $ move ! (14 ∷ 15 ∷ []) $ free1 ! $
-        move ! (12 ∷ 13 ∷ []) $ free1 ! $ move ! (10 ∷ 11 ∷ []) $ free1 ! $ move ! (8 ∷ 9 ∷ []) $ free1 ! $
-        move ! (6 ∷ 7 ∷ []) $ free1 ! $ move ! (4 ∷ 5 ∷ []) $ free1 ! $ move ! (2 ∷ 3 ∷ []) $ free1 ! $
-        move ! (0 ∷ 1 ∷ []) $ free1 ! $ free0 ! $
-        by ! (exits (twice ok h₂ again h₃) stands₂ stands₃)))))))))))))))))))))))))))))
+        forget ! 50 refl $
+        move ! (50 ∷ 51 ∷ []) $ free1 ! $ move ! (48 ∷ 49 ∷ []) $ free1 ! $ move ! (46 ∷ 47 ∷ []) $ free1 ! $
+        move ! (44 ∷ 45 ∷ []) $ free1 ! $ move ! (42 ∷ 43 ∷ []) $ free1 ! $ move ! (40 ∷ 41 ∷ []) $ free1 ! $
+        move ! (38 ∷ 39 ∷ []) $ free1 ! $ move ! (36 ∷ 37 ∷ []) $ free1 ! $ move ! (34 ∷ 35 ∷ []) $ free1 ! $
+        move ! (32 ∷ 33 ∷ []) $ free1 ! $ move ! (30 ∷ 31 ∷ []) $ free1 ! $ move ! (28 ∷ 29 ∷ []) $ free1 ! $
+        move ! (26 ∷ 27 ∷ []) $ free1 ! $ move ! (24 ∷ 25 ∷ []) $ free1 ! $ move ! (22 ∷ 23 ∷ []) $ free1 ! $
+        move ! (20 ∷ 21 ∷ []) $ free1 ! $ move ! (18 ∷ 19 ∷ []) $ free1 ! $ move ! (0 ∷ 17 ∷ []) $ free1 ! $
+        move ! (14 ∷ 15 ∷ []) $ free1 ! $ move ! (12 ∷ 13 ∷ []) $ free1 ! $ move ! (10 ∷ 11 ∷ []) $ free1 ! $
+        move ! (8 ∷ 9 ∷ []) $ free1 ! $ move ! (6 ∷ 7 ∷ []) $ free1 ! $ move ! (4 ∷ 5 ∷ []) $ free1 ! $
+        move ! (2 ∷ 3 ∷ []) $ free1 ! $ move ! (0 ∷ 1 ∷ []) $ free1 ! $ free0 ! $
+        by ! (exits (twice ok h₂ again h₃) stands₂ stands₃))))))))))))))))))))))))))))))
 
 lent-meets : {M : Type 1} (𝓤 : URA M) (H : Heap 𝓤) (A : Atoms 𝓤) (W : Given 𝓤 H A) (mem″ : Memory → SProp 𝓤)
     (run : Routine → Fun 𝓤) (𝓣 : Tables 𝓤 H)
@@ -254,7 +276,7 @@ lent-meets 𝓤 H A W mem″ run 𝓣 known₁ known₂ known₃ =
     (λ κs. spells Params params) (λ κs. tellss Params params)
     (λ κs qs bounds a _ are. via 𝓤 _ (fst∗ 𝓤 _ (emp 𝓤))
     (walk 𝓤 H A W mem″ run a are (𝓣 .C) (𝓣 .Λ) (fmOf 𝓤 H (W .laws) 𝓣) known₁ known₂ known₃
-    (typed 𝓤 H A W Params params a are) (typed 𝓤 H A W Tests tests (to-tests a) (are .1 .1 .1 .1 .1 .1 .1)))))
+    (typed 𝓤 H A W Params params a are) (typed 𝓤 H A W Both both (to-both a) (are .1 .1 .1 .1 .1 .1 .1)))))
 
 pub lent-spec : {M : Type 1} → stated.statement M
 unfolding code.routine tablesOf

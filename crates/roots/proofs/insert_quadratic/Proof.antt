@@ -18,13 +18,13 @@ returns-2 : tie.Need-returns-2
 unfolding quadraticOf insertAllOf
 returns-2 c l h e =
     let a = c .before .before .before .before .before .before .args in
-    let s = c .before .before .sqrt .result in
+    let s = c .before .before .sqrt-unmarked .result in
     let x = (neg (a .p) ⊖ s) ⊘ #2 in
     rw (
       ← c .before .before .before .before .before .near .ensures,
       c .before .before .before .before .if1 .left,
       c .before .before .before .if2 .taken,
-      ← c .before .before .sqrt .ensures,
+      ← c .before .before .sqrt-unmarked .ensures,
     )
     (inserted (insertOf l x) ((neg (a .p) ⊕ s) ⊘ #2) (insert-length l x h)
     (inserted l x h e (c .before .insert2 .ensures)) (c .insert3 .ensures))

@@ -1,9 +1,8 @@
 -- `tried` is `tryOf`: the times are stored, and `check` is made, where the trial is. Assumes nothing.
-use mathlib.Core.Bool.{false}
 use mathlib.Core.Path.{ap, _∙_}
 use Rattle.row.specs.Row.{Numbers}
 use Rattle.profile.specs.Parts.{profileOf, profileIn}
-use Rattle.profile.specs.Check.{checkOf}
+use Rattle.profile.specs.Timing.{timingOf}
 use Rattle.step2_attempt.specs.Attempt.{attemptOf, tryOf}
 use Rattle.step2_attempt.proofs.tried.Statement.{statement}
 use Rattle.step2_attempt.proofs.tried.Tie as tie
@@ -14,9 +13,9 @@ returns c =
     let s = c .before .before in let i = s .before .before .before in let q = i .before .args in
     let k = q .k in let l = q .l in
     rw (i .if1 .taken)
-    (c .check .ensures
+    (c .check-with-timing .ensures
     ∙ ap (λ (n : Numbers).
-    checkOf (k .signs) (k .label) false (k .jf) (l .«v_max») (l .«v_min») (l .«a_max») (l .«a_min»)
+    timingOf (k .signs) (k .label) (k .jf) (l .«v_max») (l .«v_min») (l .«a_max») (l .«a_min») (k .marked)
     (profileOf n (q .labels))) (s .set-times .ensures))
 
 returns-2 : tie.Need-returns-2

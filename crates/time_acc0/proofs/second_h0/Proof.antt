@@ -5,4 +5,4 @@ use Rattle.time_acc0.proofs.second_h0.Tie as tie
 
 pub second-h0-spec : {M : Type 1} → statement M
 unfolding acc0SecondH0
-second-h0-spec = tie.close (tie.spec (λ c κs. tt) (λ c κs. tt) (λ c. rw (c .sqrt .ensures, c .before .abs .ensures)))
+second-h0-spec = tie.close (tie.spec (λ c κs. tt) (λ c. rw (c .abs .ensures)))

@@ -5,4 +5,4 @@ use Rattle.time_acc0.proofs.third_h1.Tie as tie
 
 pub third-h1-spec : {M : Type 1} → statement M
 unfolding acc0ThirdH1
-third-h1-spec = tie.close (tie.spec (λ c κs. tt) (λ c κs. tt) (λ c. rw (c .sqrt .ensures, c .before .abs .ensures)))
+third-h1-spec = tie.close (tie.spec (λ c κs. tt) (λ c. rw (c .abs .ensures)))

@@ -1,8 +1,0 @@
--- `first_h1` is `acc0FirstH1`: the same operations on what its calls give. Assumes nothing.
-use Rattle.time_acc0.specs.TimeAcc0.{acc0FirstH1}
-use Rattle.time_acc0.proofs.first_h1.Statement.{statement}
-use Rattle.time_acc0.proofs.first_h1.Tie as tie
-
-pub first-h1-spec : {M : Type 1} → statement M
-unfolding acc0FirstH1
-first-h1-spec = tie.close (tie.spec (λ c κs. tt) (λ c. rw (c .sqrt .ensures)))
