@@ -39,12 +39,17 @@ LISTS = [
                  ("position_third_step2/Calls", "proofs", "no-call"),
                  ("position_third_step2/Calls", "proofs", "some-call"),
                  ("line_places/ActsAs", "proofs", "acts-as")], ["demand 1", "demand 2"], []),
+    ("paper 6", [("sqrt/Laws", "proofs", "marked-are"), ("profile/Marks", "proofs", "mark-apart"),
+                 ("profile/Marks", "proofs", "kept-from-check"), ("profile_arrives/NanTimes", "proofs", "nan-time"),
+                 ("step2_attempt/Calls", "proofs", "last-counts"),
+                 ("step2_arrives/Marked", "proofs", "marked-never-yes"),
+                 ("step2_arrives/Marked", "proofs", "marked-have-13")], ["demand 1", "demand 2", "paper 1"], []),
     ("demand 3", [("line_arrives/Theorem", "proofs", "yes-arrives"),
                   ("line_arrives/Theorem", "proofs", "yes-arrives-closely")], ["demand 1", "demand 2"], []),
     ("other theorems", [("sqrt/Nearest", "proofs", "sqrt-nearest"), ("float/Halving", "proofs", "halving"),
                         ("marked_moves/Table", "proofs", "marked-moves"),
                         ("worked_lines/Worked", "proofs", "worked-arrive")],
-     ["demand 1", "demand 2", "paper 1", "demand 3"], []),
+     ["demand 1", "demand 2", "paper 1", "paper 6", "demand 3"], []),
 ]
 
 def read(path):
@@ -257,7 +262,9 @@ def main():
     for title, found in lists():
         total, count, rows = table(found)
         wrong += ["%s: %s of %s" % (title, name, path) for (path, name) in found if "/proofs/" in path]
-        text = "%d definitions, %s lines with their comments:\n\n%s\n" % (count, format(total, ","), "\n".join(rows))
+        what = "definition" if count == 1 else "definitions"
+        sizes = "%d %s, %s lines with their comments:" % (count, what, format(total, ","))
+        text = "%s\n\n%s\n" % (sizes, "\n".join(rows))
         if "--write" not in sys.argv and "--check" not in sys.argv:
             print("## %s\n\n%s" % (title, text))
         mark = re.compile(r"(<!-- believed: %s -->\n).*?(<!-- end -->)" % re.escape(title), re.S)

@@ -20,7 +20,8 @@ extern "C" {
 #define SIPTKVARO_CALLS 728
 #define SIPTKVARO_CAUSE 730
 
-/* The first test of that call that failed, in the order in which they are made. */
+/* The first test of that call that failed, in the order in which they are made; or that its
+ * attempt took the square root of a number below zero or of a NaN, which comes first. */
 enum siptkvaro_cause {
     SIPTKVARO_YES = 0,
     SIPTKVARO_NEGATIVE_TIME = 1,
@@ -34,7 +35,8 @@ enum siptkvaro_cause {
     SIPTKVARO_END_ACCELERATION = 9,
     SIPTKVARO_ACCELERATION_LIMIT = 10,
     SIPTKVARO_VELOCITY_LIMIT = 11,
-    SIPTKVARO_NO_CALL = 12
+    SIPTKVARO_NO_CALL = 12,
+    SIPTKVARO_NO_ROOT = 13
 };
 
 /*
