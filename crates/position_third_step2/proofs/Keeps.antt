@@ -15,7 +15,7 @@ use Rattle.profile.specs.declared.Profile.{Profile}
 use Rattle.profile.specs.declared.Checked.{Checked}
 use Rattle.labels.specs.declared.tests.Tests.{Tests}
 use Rattle.limits.specs.declared.Band.{Band}
-use Rattle.row.specs.Row.{Nodes, Goal, Numbers}
+use Rattle.row.specs.Row.{Nodes, Numbers}
 use Rattle.labels.specs.declared.Labels.{Labels}
 use Rattle.phases.specs.Run.{Step, run, yes!, no! }
 use Rattle.labels.specs.Tests.{testsOf}

@@ -3,7 +3,7 @@ use lib.ListN.{set}
 use lib.Ieee.{Float}
 use Rattle.float.specs.Ops.{#0}
 use Rattle.labels.specs.Labels.{startLabels}
-use Rattle.row.specs.Row.{Numbers, withNodes, withGoal, startOf}
+use Rattle.row.specs.Row.{withNodes, withGoal, startOf}
 use Rattle.profile.specs.declared.Profile.{Profile}
 use Rattle.profile.specs.Parts.{profileOf, changed}
 

@@ -12,7 +12,7 @@ use lib.ListN.{length}
 use borrow.Author.Tests.{lt-ltb}
 use Rattle.labels.specs.declared.causes.Cause.{Cause}
 use Rattle.labels.specs.declared.causes.Cause.the-variants.{NoCall}
-use Rattle.labels.specs.Causes.{causeNumber, isYes, countedOf}
+use Rattle.labels.specs.Causes.{causeNumber, isYes}
 use Rattle.row.specs.Row.{withTimes}
 use Rattle.profile.specs.declared.Profile.{Profile}
 use Rattle.profile.specs.declared.Checked.{Checked}

@@ -1,5 +1,4 @@
 -- `to_f64` is `f64Of`; 0 / 0 is NaN. Assumes nothing.
-use mathlib.Core.Path.{refl}
 use borrow.Author.Needs.{needs}
 use lib.Ieee.{div, ofBits}
 use Rattle.sqrt.proofs.to_f64.Statement.{statement}
