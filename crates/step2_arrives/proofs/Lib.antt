@@ -3,6 +3,7 @@ pub mod Made
 pub mod Sound
 pub mod Arrives
 pub mod Trials
+pub mod Each
 pub mod Shapes
 pub mod Lines
 pub mod ZeroTests

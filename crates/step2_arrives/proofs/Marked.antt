@@ -3,17 +3,19 @@
 -- cause is 13; without a mark it is not. Assumes nothing.
 use mathlib.Core.Path.{_≡_, refl, ap}
 use mathlib.Core.Bool.{Bool, true, false, cond, false≢true}
-use mathlib.Core.List.{List, [], _∷_, _++_, map}
+use mathlib.Core.List.{List, [], _∷_}
 use Prim.Native.Nat.{ℕ, zero, suc, _≤_, _<_}
 use native.Mathlib.Omega.{arith}
 use lib.Dec.{T, eqb, lit≤, eqb→eq}
 use lib.ListN.{getD}
 use lib.Ieee.{Float, nan}
 use Rattle.float.proofs.Nan.{add-nan, sub-nan, nan-mul, mul-nan, nan-div, div-nan, neg-nan}
+use Rattle.labels.specs.declared.ReachedLimits.{ReachedLimits}
+use Rattle.labels.specs.declared.ControlSigns.{ControlSigns}
 use Rattle.labels.specs.declared.causes.Cause.{Cause}
 use Rattle.labels.specs.Causes.{causeNumber}
 use Rattle.positive_set.specs.Set.{sortedOf}
-use Rattle.positive_set.proofs.Laws.{Every, every-append}
+use Rattle.positive_set.proofs.Laws.{Every, every-of-all}
 use Rattle.sqrt.specs.Sqrt.{squareRootOf}
 use Rattle.sqrt.proofs.Laws.{mark-is-nan}
 use Rattle.row.specs.Row.{withTimes}
@@ -27,17 +29,17 @@ use Rattle.roots.specs.Quartic.{polynomRootsOf}
 use Rattle.step2_solver.specs.declared.PositionThirdOrderStep2.{PositionThirdOrderStep2}
 use Rattle.step2_solver.specs.declared.Limits.{Limits}
 use Rattle.step2_solver.specs.declared.Shape.{Shape}
-use Rattle.step2_solver.specs.declared.Shape.the-variants.{Acc0Acc1Vel, Acc1Vel, Acc0Vel, Acc0Acc1, Acc0}
+use Rattle.step2_solver.specs.declared.Times.{Times}
 use Rattle.step2_solver.specs.declared.Trial.{Trial}
 use Rattle.step2_solver.specs.declared.Window.{Window}
 use Rattle.step2_solver.specs.Window.{outsideOf}
-use Rattle.step2_solver.specs.Trials.{noTrial}
+use Rattle.step2_solver.specs.Trials.{trialOf, noTrial}
 use Rattle.step2_quartics.specs.declared.Quartics.{Quartics}
 use Rattle.time_acc0_acc1_vel.specs.TimeAcc0Acc1Vel.{acc0Acc1VelUdduApplies}
 use Rattle.time_acc0_acc1_vel.specs.TimeAcc0Acc1Vel.{acc0Acc1VelUdduH1, acc0Acc1VelUdduTimes, acc0Acc1VelUddu}
 use Rattle.time_acc0_acc1_vel.specs.TimeAcc0Acc1Vel.{acc0Acc1VelUdudApplies, acc0Acc1VelUdud}
 use Rattle.time_acc1_vel.specs.TimeAcc1Vel.{acc1VelUddu, acc1VelUdud}
-use Rattle.time_acc0_vel.specs.TimeAcc0Vel.{acc0VelTooShort, acc0VelUddu, acc0VelUdud}
+use Rattle.time_acc0_vel.specs.TimeAcc0Vel.{acc0VelUddu, acc0VelUdud}
 use Rattle.time_acc0_acc1.specs.TimeAcc0Acc1.{acc0Acc1RestApplies, acc0Acc1Rest, acc0Acc1UdduJf}
 use Rattle.time_acc0_acc1.specs.TimeAcc0Acc1.{acc0Acc1UdduTimes, acc0Acc1Uddu}
 use Rattle.time_acc0.specs.TimeAcc0.{acc0FirstRadicand, acc0FirstTimes, acc0First}
@@ -45,8 +47,8 @@ use Rattle.time_acc0.specs.TimeAcc0.{acc0SecondH0, acc0SecondTimes}
 use Rattle.time_acc0.specs.TimeAcc0.{acc0Second, acc0ThirdH1}
 use Rattle.time_acc0.specs.TimeAcc0.{acc0ThirdTimes, acc0Third}
 use Rattle.step2_attempt.specs.Attempt.{sevenOf, attemptOf, nothing, tryOf}
-use Rattle.step2_over_roots.specs.OverRoots.{overRoots}
 use Rattle.position_third_step2.specs.Shape.{attemptsOf}
+use Rattle.step2_arrives.proofs.Each.{Each, all-attempts}
 
 -- ---- a marked attempt has a NaN among its times
 abbrev pub NanIfMarked : Trial → Type 0
@@ -72,23 +74,11 @@ module _ (s : PositionThirdOrderStep2) (l : Limits) where
       either (acc0Acc1VelUdudApplies s (l .«a_max») (l .«j_max»)) _ _ (λ h. absurd (false≢true h))
       (λ h. absurd (false≢true h))
 
-  -- a root of a quartic gives no mark
-  module _ (w : Window) (root : Float) where
-    acc1-vel-uddu : NanIfMarked (acc1VelUddu s l w root)
-    unfolding acc1VelUddu
-    acc1-vel-uddu = either (outsideOf w root) _ _ (λ h. absurd (false≢true h)) (λ h. absurd (false≢true h))
-
-    acc1-vel-udud : NanIfMarked (acc1VelUdud s l w root)
-    unfolding acc1VelUdud
-    acc1-vel-udud = either (outsideOf w root) _ _ (λ h. absurd (false≢true h)) (λ h. absurd (false≢true h))
-
-    acc0-vel-uddu : NanIfMarked (acc0VelUddu s l w root)
-    unfolding acc0VelUddu
-    acc0-vel-uddu = either (outsideOf w root) _ _ (λ h. absurd (false≢true h)) (λ h. absurd (false≢true h))
-
-    acc0-vel-udud : NanIfMarked (acc0VelUdud s l w root)
-    unfolding acc0VelUdud
-    acc0-vel-udud = either (outsideOf w root) _ _ (λ h. absurd (false≢true h)) (λ h. absurd (false≢true h))
+  -- an attempt at a root of a quartic has no mark
+  inside : (w : Window) (root : Float) (x : Times) (signs : ControlSigns) (label : ReachedLimits) (jf : Float)
+      → NanIfMarked (cond (outsideOf w root) noTrial (trialOf false x signs label jf))
+  inside w root x signs label jf =
+      either (outsideOf w root) _ _ (λ h. absurd (false≢true h)) (λ h. absurd (false≢true h))
 
   acc0-acc1-rest : NanIfMarked (acc0Acc1Rest s l)
   unfolding acc0Acc1Rest
@@ -114,37 +104,22 @@ module _ (s : PositionThirdOrderStep2) (l : Limits) where
   unfolding acc0Third acc0ThirdTimes acc0ThirdH1
   acc0-third h = (3, lit≤ tt, rw (mark-is-nan _ h, mul-nan _, sub-nan _, nan-div _))
 
--- ---- so does every attempt of a shape
-over : (f : Float → Trial) → ((x : Float) → NanIfMarked (f x)) → (p : List Float) (answer : RootAnswer)
-    → Every NanIfMarked (overRoots f p answer)
-over f h p answer = each (sortedOf (polynomRootsOf p answer))
-  where
-    each : (xs : List Float) → Every NanIfMarked (map f xs)
-    each [] = tt
-    each (x ∷ xs) = (h x, each xs)
-
-both : (f g : Float → Trial) → ((x : Float) → NanIfMarked (f x)) → ((x : Float) → NanIfMarked (g x)) → (q : Quartics)
-    (first second : RootAnswer) → Every NanIfMarked (overRoots f (q .uddu) first ++ overRoots g (q .udud) second)
-both f g h k q first second =
-    every-append NanIfMarked (overRoots f (q .uddu) first) (overRoots g (q .udud) second) (over f h (q .uddu) first)
-    (over g k (q .udud) second)
-
-unless : (b : Bool) (ks : List Trial) → Every NanIfMarked ks → Every NanIfMarked (cond b [] ks)
-unless true ks h = tt
-unless false ks h = h
-
-module _ (s : PositionThirdOrderStep2) (l : Limits) (q : Quartics) (first second : RootAnswer) where
-  pub marked-have-nan : (shape : Shape) → Every NanIfMarked (attemptsOf shape s l q first second)
-  marked-have-nan Acc0Acc1Vel = (acc0-acc1-vel-uddu s l, (acc0-acc1-vel-udud s l, tt))
-  marked-have-nan Acc1Vel = both _ _ (acc1-vel-uddu s l _) (acc1-vel-udud s l _) q first second
-  marked-have-nan Acc0Vel =
-      unless (acc0VelTooShort s (l .«a_max») (l .«j_max»)) _
-      (both _ _ (acc0-vel-uddu s l _) (acc0-vel-udud s l _) q first second)
-  marked-have-nan Acc0Acc1 = (
-    either (acc0Acc1RestApplies s) (acc0Acc1Rest s l) (acc0Acc1Uddu s l) (acc0-acc1-rest s l) (acc0-acc1-uddu s l),
-    tt,
-  )
-  marked-have-nan Acc0 = (acc0-first s l, (acc0-second s l, (acc0-third s l, tt)))
+  each : Each NanIfMarked (λ root. Unit {0}) s l
+  unfolding acc1VelUddu acc1VelUdud acc0VelUddu acc0VelUdud
+  each =
+      record {
+        acc0-acc1-vel-uddu = acc0-acc1-vel-uddu;
+        acc0-acc1-vel-udud = acc0-acc1-vel-udud;
+        acc1-vel-uddu = λ root z. inside _ root _ _ _ _;
+        acc1-vel-udud = λ root z. inside _ root _ _ _ _;
+        acc0-vel-uddu = λ root z. inside _ root _ _ _ _;
+        acc0-vel-udud = λ root z. inside _ root _ _ _ _;
+        acc0-acc1 =
+            either (acc0Acc1RestApplies s) (acc0Acc1Rest s l) (acc0Acc1Uddu s l) acc0-acc1-rest acc0-acc1-uddu;
+        acc0-first = acc0-first;
+        acc0-second = acc0-second;
+        acc0-third = acc0-third;
+      }
 
 -- ---- what comes of such an attempt, on any profile
 module _ (l : Limits) (k : Trial) (h : NanIfMarked k) (p : Profile) where
@@ -191,7 +166,12 @@ module _ (shape : Shape) (s : PositionThirdOrderStep2) (l : Limits) (q : Quartic
   attempt = getD (attemptsOf shape s l q first second) i noTrial
 
   has-nan : NanIfMarked attempt
-  has-nan = every-at (attemptsOf shape s l q first second) (marked-have-nan s l q first second shape) i
+  has-nan =
+      every-at (attemptsOf shape s l q first second)
+      (all-attempts NanIfMarked (λ root. Unit {0}) (each s l) shape q first second
+      (λ p. every-of-all (λ root. Unit {0}) (λ root. tt) (sortedOf (polynomRootsOf p first)))
+      (λ p. every-of-all (λ root. Unit {0}) (λ root. tt) (sortedOf (polynomRootsOf p second))))
+      i
 
   -- a marked one gets no yes
   pub marked-never-yes : getD (attemptsOf shape s l q first second) i noTrial .marked ≡ true
