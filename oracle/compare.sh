@@ -12,7 +12,7 @@ port=$root/target/bin/moves_list
 seed=$1
 count=$2
 shift 2
-[ $# -gt 0 ] || set -- 00 01 02 03 04 05 06 07 11 12 13 14 15
+[ $# -gt 0 ] || set -- 00 01 02 03 04 05 06 07 08 11 12 13 14 15
 
 [ -x "$oracle/generate" ] || "$root/oracle/build.sh"
 [ -x "$port" ] || (cd "$root" && rt check moves_list)

@@ -27,7 +27,7 @@ zeros() {
 same "" 728 ""
 same "01" 728 '\n'
 same "01" 728 '0'
-same "$(printf '01\n02\n03\n04')" 728 '\n0g\n08\n00'
+same "$(printf '01\n02\n03\n04')" 728 '\n0g\n09\n00'
 same "$(printf '01\n01')" 728 "$(zeros 297)\n$(zeros 298)\n"
 same "01070100$(zeros 720)" 728 "00000700$(zeros 288)"
 same "01070100$(zeros 720)" 5000 "00000700$(zeros 288)\n"
@@ -54,7 +54,7 @@ cat "$work/lines" | "$out/oracle" | cmp - "$work/whole"
 [ "$(wc -l < "$work/whole")" = 1000000 ]
 echo "a million lines cover every case; read in small parts they give the same"
 
-for list in kind00 shapes broken causes; do
+for list in kind00 shapes rest broken causes; do
     "$out/lists" $list 1 3000 "$work/input" "$work/output"
     "$out/oracle" < "$work/input" | cmp - "$work/output"
 done

@@ -13,10 +13,19 @@ const SHOWN: u64 = 10;
 /// More than the longest reply, so that places past it are compared too.
 const MOST: usize = 760;
 
+/// How often what came up.
+#[derive(Default)]
+struct Counts {
+    /// By number.
+    answers: [u64; 9],
+    /// Lines of kind 08 by their verdict, and by that of the same line of kind 04.
+    rests: [[u64; 2]; 2],
+}
+
 pub fn count(seed: u64, millions: u64, kinds: &[&Kind]) -> u64 {
     let mut differences = 0;
     let start = Instant::now();
-    let mut counts = [0u64; 9];
+    let mut counts = Counts::default();
     for seed in seed..seed + millions {
         let mut sides = [Duration::ZERO; 2];
         let found = batch(seed, kinds, &mut differences, &mut counts, &mut sides);
@@ -26,7 +35,9 @@ pub fn count(seed: u64, millions: u64, kinds: &[&Kind]) -> u64 {
             sides[1].as_secs_f64()
         );
     }
-    println!("answers 0 to 8: {counts:?}");
+    println!("answers 0 to 8: {:?}", counts.answers);
+    let [[neither, by_04], [by_08, both]] = counts.rests;
+    println!("kind 08 and the same of 04, yes: both {both}, 08 alone {by_08}, 04 alone {by_04}, neither {neither}");
     println!(
         "{} lines in all, {differences} differences, {:.1} s",
         millions * BATCH,
@@ -39,7 +50,7 @@ fn batch(
     seed: u64,
     kinds: &[&Kind],
     differences: &mut u64,
-    counts: &mut [u64; 9],
+    counts: &mut Counts,
     sides: &mut [Duration; 2],
 ) -> u64 {
     // Lines are made a few thousand at a time, so that making them is not timed.
@@ -73,7 +84,11 @@ fn batch(
         sides[1] += start.elapsed();
         for (index, (line, places, _)) in lines.iter().enumerate() {
             let [wanted, got] = answers[index];
-            counts[wanted.0 as usize] += 1;
+            counts.answers[wanted.0 as usize] += 1;
+            if wanted.0 == 0 && line.characters.starts_with(b"08") {
+                let by_04 = rust_says_yes_as_04(line);
+                counts.rests[(by_rust[index][1] == b'1') as usize][by_04 as usize] += 1;
+            }
             if wanted == got && by_rust[index] == by_port[index] {
                 continue;
             }
@@ -89,6 +104,14 @@ fn batch(
         }
     }
     *differences - before
+}
+
+fn rust_says_yes_as_04(line: &Line) -> bool {
+    let mut request = line.characters.clone();
+    request[1] = b'4';
+    let mut reply = [0; MOST];
+    assert_eq!(rust::answer(&request, &mut reply).0, 0, "kind 04 has the questions of 08");
+    reply[1] == b'1'
 }
 
 fn first(rust: &[u8], port: &[u8]) -> String {

@@ -11,7 +11,7 @@ set -eu
 need_oracle
 seed=$1
 count=$2
-kinds=${3:-00 01 02 03 04 05 06 07 11 12 13 14 15}
+kinds=${3:-00 01 02 03 04 05 06 07 08 11 12 13 14 15}
 
 echo "seed $seed, $count lines a kind, nanoseconds a line"
 echo "kind   Rust   port  ratio"

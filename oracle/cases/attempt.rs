@@ -1,7 +1,8 @@
-//! The eleven attempts of the five shapes, each with a motion of its own form.
+//! The eleven attempts of the five shapes and the two of kind 08, each with a motion of its own
+//! form.
 
 use crate::motion::forwards;
-use crate::numbers::quarters;
+use crate::numbers::{quarters, within_eight};
 use crate::random::Random;
 use oracle::kinds::Shape;
 
@@ -18,6 +19,8 @@ pub enum Form {
     Acc0UdudNone,
     Acc0UdduNone,
     Acc0UdduAcc0,
+    RestToRest,
+    RestToRestUddu,
 }
 
 use Form::*;
@@ -31,7 +34,7 @@ pub struct Attempt {
     pub label: u8,
 }
 
-pub const ATTEMPTS: [Attempt; 11] = [
+pub const ATTEMPTS: [Attempt; 13] = [
     Attempt { form: Acc0Acc1VelUddu, shape: Shape::Acc0Acc1Vel, signs: 0, label: 0 },
     Attempt { form: Acc0Acc1VelUdud, shape: Shape::Acc0Acc1Vel, signs: 1, label: 0 },
     Attempt { form: Acc1VelUddu, shape: Shape::Acc1Vel, signs: 0, label: 6 },
@@ -43,14 +46,20 @@ pub const ATTEMPTS: [Attempt; 11] = [
     Attempt { form: Acc0UdudNone, shape: Shape::Acc0, signs: 1, label: 7 },
     Attempt { form: Acc0UdduNone, shape: Shape::Acc0, signs: 0, label: 7 },
     Attempt { form: Acc0UdduAcc0, shape: Shape::Acc0, signs: 0, label: 2 },
+    Attempt { form: RestToRest, shape: Shape::RestToRest, signs: 0, label: 4 },
+    Attempt { form: RestToRestUddu, shape: Shape::RestToRest, signs: 0, label: 4 },
 ];
+
+/// How many of them are the Rust's.
+pub const RUSTS: usize = 11;
 
 impl Attempt {
     pub fn calls_so(&self, shape: Shape, signs: u8, label: u8) -> bool {
         (self.shape, self.signs, self.label) == (shape, signs, label)
     }
 
-    /// Whether it takes a square root of its own. Those of quartics are no attempt's.
+    /// Whether it takes a square root of its own, in a kind that tells of it. Those of quartics
+    /// are no attempt's, and kind 08 tells of none.
     pub fn takes_root(&self) -> bool {
         matches!(
             self.form,
@@ -59,8 +68,8 @@ impl Attempt {
     }
 }
 
-/// Which attempt called `check` so. The fourth shape's two call it alike; the one of
-/// the rest formula comes first.
+/// Which attempt called `check` so. The fourth shape's two call it alike, and so do those of
+/// kind 08; the one of the rest formula comes first.
 pub fn index_of_call(shape: Shape, signs: u8, label: u8, rest: bool) -> usize {
     let so = |attempt: &Attempt| attempt.calls_so(shape, signs, label);
     let index = if rest { ATTEMPTS.iter().position(so) } else { ATTEMPTS.iter().rposition(so) };
@@ -75,8 +84,8 @@ pub fn at_rest(numbers: &[f64; 12]) -> bool {
 /// The twelve numbers of a line whose answer should come from `attempt`. The
 /// velocity limits lie at the extreme velocities; the caller gives them room.
 pub fn twelve(random: &mut Random, attempt: Attempt) -> [f64; 12] {
-    let rest = attempt.form == Acc0Acc1Rest;
-    let a_max = if rest { rest_limit(random) } else { size(random, 4) };
+    let rest = matches!(attempt.form, Acc0Acc1Rest | RestToRest);
+    let a_max = if attempt.form == Acc0Acc1Rest { rest_limit(random) } else { size(random, 4) };
     let a_min = -size(random, 4);
     let j = size(random, 8);
     let a0 = if rest { 0.0 } else { acceleration(random, a_min, a_max) };
@@ -106,17 +115,15 @@ pub fn twelve(random: &mut Random, attempt: Attempt) -> [f64; 12] {
         Acc1VelUdud => [first, 0.0, second, three, max_zero, five, max_end],
         Acc0VelUddu => [start_max, one, max_zero, three, down, 0.0, down + af / j],
         Acc0VelUdud => [start_max, one, max_zero, three, up, 0.0, up - af / j],
-        Acc0Acc1Rest | Acc0Acc1Uddu => [start_max, one, max_zero, 0.0, zero_min, five, min_end],
+        Acc0Acc1Rest | Acc0Acc1Uddu | RestToRest | RestToRestUddu => {
+            [start_max, one, max_zero, 0.0, zero_min, five, min_end]
+        }
         Acc0UdudNone => [start_max, one, max_end + ramp, 0.0, ramp, 0.0, 0.0],
         Acc0UdduNone => [start_max, one, ramp, three, 0.0, 0.0, five],
         Acc0UdduAcc0 => [start_max, one, ramp, three, five, 0.0, 0.0],
     };
 
-    let [p0, v0] = std::array::from_fn(|_| match random.below(3) {
-        0 => 0.0,
-        1 => quarters(random, 8) * random.sign(),
-        _ => random.between(-8.0, 8.0),
-    });
+    let [p0, v0] = std::array::from_fn(|_| within_eight(random));
     let motion = forwards(attempt.signs as usize, j, &times, [p0, v0, a0]);
     let [pf, vf, af] = motion.end;
     let tf = motion.duration;
@@ -124,7 +131,7 @@ pub fn twelve(random: &mut Random, attempt: Attempt) -> [f64; 12] {
     [tf, p0, v0, a0, pf, vf, af, v_max, v_min, a_max, a_min, j]
 }
 
-fn size(random: &mut Random, most: u64) -> f64 {
+pub fn size(random: &mut Random, most: u64) -> f64 {
     match random.below(3) {
         0 => quarters(random, most - 1) + 0.25,
         1 => random.between(0.0, most as f64),

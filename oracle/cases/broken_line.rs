@@ -21,7 +21,7 @@ pub fn spoil(random: &mut Random, kind: &Kind, line: &mut Line) {
             0 => length(random, line),
             1 => character(random, line),
             2 => {
-                let byte = random.pick(&[0x08, 0x09, 0x0A, 0x10, 0x16, 0x20, 0x7F, 0x80, 0xFF]);
+                let byte = random.pick(&[0x09, 0x0A, 0x0C, 0x10, 0x16, 0x20, 0x7F, 0x80, 0xFF]);
                 set_byte(line, 0, byte);
             }
             3 => even_length(random, line),

@@ -11,6 +11,7 @@ mod needs;
 pub mod numbers;
 pub mod quartic;
 pub mod random;
+mod rest_to_rest;
 pub mod shape_line;
 
 pub use oracle::kinds;

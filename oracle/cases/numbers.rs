@@ -98,6 +98,15 @@ pub fn quarters(random: &mut Random, most: u64) -> f64 {
     random.below(4 * most + 1) as f64 / 4.0
 }
 
+/// At most 8 in size: 0, quarters, or any.
+pub fn within_eight(random: &mut Random) -> f64 {
+    match random.below(3) {
+        0 => 0.0,
+        1 => quarters(random, 8) * random.sign(),
+        _ => random.between(-8.0, 8.0),
+    }
+}
+
 /// From 2^-`range` to 2^`range`.
 pub fn scale(random: &mut Random, range: f64) -> f64 {
     random.between(-range, range).exp2()

@@ -1,11 +1,11 @@
 //! Lines of all kinds but 00.
 
-use crate::attempt::{twelve, Attempt, ATTEMPTS};
+use crate::attempt::{twelve, Attempt, ATTEMPTS, RUSTS};
 use crate::line::Line;
 use crate::numbers::{any_finite, blur, edge, near, ordinary, quarters};
 use crate::quartic::suited_answer;
 use crate::random::Random;
-use crate::{many_roots, needs};
+use crate::{many_roots, needs, rest_to_rest};
 use oracle::kinds::{Asks, Kind, Shape};
 use oracle::{quartics, shapes};
 
@@ -19,6 +19,9 @@ pub fn write(random: &mut Random, kind: &Kind, shape: Shape, line: &mut Line) {
     }
     let numbers = match kind.asks {
         Asks::Causes(Shape::Acc0) => sometimes_tiny(random.aside(), numbers(random, shape)),
+        // Most of these exist; the others are like those of kind 04.
+        Asks::Shape(Shape::RestToRest) if !random.once_in(3) => rest_to_rest::numbers(random),
+        Asks::Shape(Shape::RestToRest) => sometimes_tiny(random.aside(), numbers(random, shape)),
         _ => numbers(random, shape),
     };
     line.numbers(&numbers);
@@ -61,8 +64,10 @@ fn sometimes_tiny(mut random: Random, numbers: [f64; 12]) -> [f64; 12] {
 }
 
 fn planned(random: &mut Random, shape: Shape) -> [f64; 12] {
+    // A seed gives the five shapes the lines that it gave without kind 08.
+    let among = if shape == Shape::RestToRest { &ATTEMPTS[..] } else { &ATTEMPTS[..RUSTS] };
     loop {
-        let attempt: Attempt = random.pick(&ATTEMPTS);
+        let attempt: Attempt = random.pick(among);
         if attempt.shape == shape {
             let numbers = twelve(random, attempt);
             return room(random, numbers);

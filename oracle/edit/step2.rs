@@ -1,7 +1,8 @@
 //! `position_third_step2.rs`: the five shapes become public, and the lines that
 //! work out the four quartics become functions of their own, because a line asks
-//! for both quartics even where the shape stops before the second. In the traced copy the
-//! square roots of the shapes tell what they are taken of.
+//! for both quartics even where the shape stops before the second. Kind 08 is the fourth
+//! shape once more, with another t[1]. In the traced copy the square roots of the shapes tell
+//! what they are taken of.
 
 use crate::text::{after, between, fail, replace};
 
@@ -38,7 +39,8 @@ pub fn edit(source: &str) -> String {
         let header = format!("    fn {shape}(\n");
         text = replace(&text, &header, &format!("    pub fn {shape}(\n"), 1);
     }
-    text + &polynoms(source)
+    let rest_to_rest = rest_to_rest(&text);
+    text + &polynoms(source) + &rest_to_rest
 }
 
 /// For the traced copy, after `edit`.
@@ -66,6 +68,21 @@ fn trace_roots(shape: &str, lines: &str, roots: &[Root]) -> String {
         text += &format!("crate::trace::root({part}");
     }
     text
+}
+
+/// Document 02, Paper 4: the whole of the fourth shape, where the rest formula's t[1] is the
+/// document's. The square is one product (`pow2`).
+fn rest_to_rest(edited: &str) -> String {
+    let shape = between(edited, "    pub fn time_acc0_acc1(\n", "    fn time_acc1(\n");
+    let named = replace(shape, "time_acc0_acc1(", "time_rest_to_rest(", 1);
+    let with_t1 = replace(
+        &named,
+        "profile.t[1] = (-2.0 * a_max * h1 + a_min * a_min * self.g2) / h2;",
+        "profile.t[1] = (jf * (self.vd - a_min * self.tf) - pow2(a_max - a_min))\n                \
+             / ((a_max - a_min) * jf);",
+        1,
+    );
+    format!("\nimpl PositionThirdOrderStep2 {{\n{with_t1}}}\n")
 }
 
 fn polynoms(source: &str) -> String {

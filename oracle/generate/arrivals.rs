@@ -1,5 +1,5 @@
-//! Whether a line is one that demand 3 speaks of: a yes of kinds 01 to 05 with
-//! start, total time and recorded jerks within its sizes.
+//! Whether a line is one that demand 3 speaks of: a yes of kinds 01 to 05 or 08
+//! with start, total time and recorded jerks within its sizes.
 
 use oracle::{answer_line, digits, frame};
 

@@ -1,8 +1,8 @@
 //! Counts what came up, by asking the oracle for each line.
 
 use crate::marks::Marks;
-use cases::attempt::{at_rest, index_of_call};
-use cases::kinds::{Kind, COUNT};
+use cases::attempt::{at_rest, index_of_call, ATTEMPTS};
+use cases::kinds::{Kind, Shape, COUNT};
 use oracle::quartics::{need, polynoms};
 use oracle::{answer, answer_line, digits, frame, shapes};
 use rsruckig::trace;
@@ -26,11 +26,15 @@ pub struct Coverage {
     /// Kind 00 by the test that said no.
     pub tests: [u64; TESTS],
     /// The calls of `check` by attempt and cause.
-    pub attempts: [[u64; CAUSES]; 11],
+    pub attempts: [[u64; CAUSES]; ATTEMPTS.len()],
     /// The yeses by attempt and direction.
-    pub directions: [[u64; 2]; 11],
+    pub directions: [[u64; 2]; ATTEMPTS.len()],
     /// The square roots of kinds 11 to 15 by attempt.
-    pub marks: [Marks; 11],
+    pub marks: [Marks; ATTEMPTS.len()],
+    /// Lines of kind 08 with both ends at rest by verdict; and the yeses among them by whether
+    /// both velocities are 0, and by whether the jerk is negative.
+    pub rests: [u64; 2],
+    pub rest_yeses: [[u64; 2]; 2],
     /// Accepted root answers by need and count.
     pub counts: [[u64; 4]; 3],
     kinds: [OfKind; COUNT],
@@ -100,6 +104,9 @@ impl Coverage {
             of_kind.lasts[calls[1] as usize] += 1;
         }
         let numbers: [f64; 12] = frame::numbers(bytes, frame::NUMBERS);
+        if shape == Shape::RestToRest && at_rest(&numbers) {
+            self.add_rest(verdict, &numbers, places);
+        }
         for (turn, check) in checks[..count].iter().enumerate() {
             let index = index_of_call(shape, check.signs, check.label, at_rest(&numbers));
             self.attempts[index][check.cause as usize] += 1;
@@ -108,6 +115,17 @@ impl Coverage {
                 self.marks[index].add(check, turn + 1 == count, &checks[count - 1]);
             }
         }
+    }
+
+    fn add_rest(&mut self, verdict: usize, numbers: &[f64; 12], places: &[u8]) {
+        let [_, _, v0, _, _, vf, ..] = *numbers;
+        let mut reply = [0; frame::RECORD_PLACES / 2];
+        digits::read(&places[..frame::RECORD_PLACES], &mut reply);
+        let jerks: [f64; 7] = frame::numbers(&reply, 4 + 2 * 7 * 8);
+        let still = v0 == 0.0 && vf == 0.0;
+        let negative = jerks[0] < 0.0;
+        self.rests[verdict] += 1;
+        self.rest_yeses[still as usize][negative as usize] += verdict as u64;
     }
 
     fn add_needs(&mut self, kind: &Kind, bytes: &[u8; frame::LONGEST], places: &[u8]) {

@@ -28,6 +28,7 @@ pub fn faults(coverage: &Coverage) -> Faults {
     for kind in KINDS.iter().filter(|kind| kind.replies_causes()) {
         faults.calls(coverage, kind);
     }
+    faults.rests(coverage);
     faults.quartics(coverage);
     for kind in &KINDS {
         faults.classes(coverage, kind);
@@ -150,6 +151,17 @@ impl Faults {
         }
     }
 
+    fn rests(&mut self, coverage: &Coverage) {
+        let [noes, yeses] = coverage.rests;
+        self.hold(true, yeses.saturating_sub(noes), "kind 08 at rest, more yeses than noes".into());
+        for (velocities, jerks) in ["not 0", "both 0"].iter().zip(&coverage.rest_yeses) {
+            for (jerk, count) in ["not negative", "negative"].iter().zip(jerks) {
+                let name = format!("kind 08, yes, velocities {velocities}, jerk {jerk}");
+                self.hold(true, *count, name);
+            }
+        }
+    }
+
     fn quartics(&mut self, coverage: &Coverage) {
         for (kind, shape) in KINDS.iter().filter_map(|kind| Some((kind, kind.quartics_of()?))) {
             let number = kind.number;
@@ -193,13 +205,13 @@ fn label_has(label: u8, cause: usize) -> bool {
     }
 }
 
-/// In the rest formula t[6] is t[4] and a[3] becomes 0, so a[7] is 0 exactly or
+/// In the rest formula, kind 08's too, t[6] is t[4] and a[3] becomes 0, so a[7] is 0 exactly or
 /// not finite. Then no product of neighbouring accelerations after phase 1 is
 /// below zero (cause 6), and an a[7] that is not finite comes with a p[7] that is
 /// not (cause 9 after cause 7).
 fn attempt_has(attempt: &Attempt, cause: usize) -> bool {
-    let rest = attempt.form == Form::Acc0Acc1Rest && matches!(cause, 6 | 9);
-    label_has(attempt.label, cause) && !rest
+    let rest = matches!(attempt.form, Form::Acc0Acc1Rest | Form::RestToRest);
+    label_has(attempt.label, cause) && !(rest && matches!(cause, 6 | 9))
 }
 
 /// What a mark stands ahead of. A root that does not exist is NaN, and so are the times that it
@@ -246,8 +258,8 @@ fn record_comes_up(kind: &Kind, verdict: usize, label: u8, signs: u8) -> bool {
 /// How often a shape can call `check`; a yes ends all of them.
 ///
 /// The first has two attempts, each under a condition of its own, so none, one or both.
-/// The fourth has one call, whichever of its two branches it takes. The fifth has three
-/// attempts and nothing that would pass one over.
+/// The fourth has one call, whichever of its two branches it takes, and so has kind 08. The
+/// fifth has three attempts and nothing that would pass one over.
 ///
 /// The second and the third call it for each root of two quartics that lies within the
 /// times of the attempt. A quartic has four roots at most, two of each of the factors
@@ -263,7 +275,7 @@ fn count_comes_up(shape: Shape, count: usize) -> bool {
         Shape::Acc0Acc1Vel => count <= 2,
         Shape::Acc1Vel => count <= 8,
         Shape::Acc0Vel => count <= 7,
-        Shape::Acc0Acc1 => count == 1,
+        Shape::Acc0Acc1 | Shape::RestToRest => count == 1,
         Shape::Acc0 => (1..=3).contains(&count),
     }
 }

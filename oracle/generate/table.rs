@@ -42,6 +42,7 @@ pub fn text(coverage: &Coverage) -> String {
         checks(coverage, text)?;
         attempts(coverage, text)?;
         marks(coverage, text)?;
+        rests(coverage, text)?;
         records(coverage, &KINDS, text)?;
         quartics(coverage, text)?;
         classes(coverage, &KINDS, text)
@@ -119,6 +120,18 @@ fn marks(coverage: &Coverage, text: &mut String) -> Result {
     writeln!(text, "by argument; in front of a last call that is not marked and says no, yes")?;
     for (attempt, Marks { causes, lasts, earlier, .. }) in taken() {
         writeln!(text, "  {:?} {causes:?} {lasts:?} {earlier:?}", attempt.form)?;
+    }
+    Ok(())
+}
+
+fn rests(coverage: &Coverage, text: &mut String) -> Result {
+    writeln!(
+        text,
+        "kind 08 with both ends at rest: no, yes; yeses by jerk not negative, negative"
+    )?;
+    writeln!(text, "  {:?}", coverage.rests)?;
+    for (velocities, jerks) in ["not 0", "both 0"].iter().zip(coverage.rest_yeses) {
+        writeln!(text, "  velocities {velocities} {jerks:?}")?;
     }
     Ok(())
 }

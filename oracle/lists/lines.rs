@@ -29,6 +29,10 @@ pub fn causes(random: &mut Random, line: &mut Line) {
     of_kind(random.pick(&[0x11, 0x12, 0x13, 0x14, 0x15]), random, line);
 }
 
+pub fn rest_to_rest(random: &mut Random, line: &mut Line) {
+    of_kind(0x08, random, line);
+}
+
 /// Faulty lines, though some of the faults are none: a time may be NaN.
 pub fn broken(random: &mut Random, line: &mut Line) {
     let kind = random.pick(&KINDS);
@@ -111,7 +115,7 @@ fn answer(request: &[u8]) -> Answered {
     }
     match kind.shape() {
         None => case.extend_from_slice(&request[2..8]),
-        Some(Shape::Acc0Acc1) => case.push(at_rest(&twelve(request)) as u8),
+        Some(Shape::Acc0Acc1 | Shape::RestToRest) => case.push(at_rest(&twelve(request)) as u8),
         Some(_) => {
             let (quartics, ran) = hand_in::quartics();
             case.extend(quartics[..ran].iter().map(|quartic| quartic.asked));

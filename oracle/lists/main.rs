@@ -3,7 +3,7 @@
 //!
 //!   lists KIND SEED COUNT INPUT OUTPUT
 //!
-//! KIND is one of sqrt, cmath, roots, integrate, halving, profile, kind00, shapes, causes,
+//! KIND is one of sqrt, cmath, roots, integrate, halving, profile, kind00, shapes, causes, rest,
 //! broken. `cmath` takes its cases from CPython's published test vectors and ignores SEED
 //! and COUNT.
 
@@ -73,6 +73,7 @@ fn main() {
         "kind00" => lines::fill(&mut lists, &mut random, count, lines::check),
         "shapes" => lines::fill(&mut lists, &mut random, count, lines::shape),
         "causes" => lines::fill(&mut lists, &mut random, count, lines::causes),
+        "rest" => lines::fill(&mut lists, &mut random, count, lines::rest_to_rest),
         "broken" => lines::fill(&mut lists, &mut random, count, lines::broken),
         _ => {
             eprintln!("lists: no list is called {kind}");

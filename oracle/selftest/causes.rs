@@ -74,7 +74,7 @@ fn worked_through(shape: Shape, count: u8, asked: &[f64; 12], reply: &[u8]) -> u
     let too_short = |phase: usize| times[phase] < f64::EPSILON;
     let [t1, t3, t5] = match shape {
         Shape::Acc0Acc1Vel | Shape::Acc1Vel | Shape::Acc0Vel => [false, true, false],
-        Shape::Acc0Acc1 => [true, false, true],
+        Shape::Acc0Acc1 | Shape::RestToRest => [true, false, true],
         // The third attempt alone has a label that asks for it.
         Shape::Acc0 => [count == 3, false, false],
     };

@@ -2,7 +2,7 @@
 //! taken out of the shapes give bit for bit what the shapes' own calls receive;
 //! and what those calls ask for is what the needs say, with the same arguments.
 
-use crate::causes;
+use crate::{causes, rest_to_rest};
 use cases::any_line::sometimes_broken;
 use cases::kinds::{Kind, Shape};
 use cases::line::Line;
@@ -12,15 +12,17 @@ use oracle::{answer, digits, frame, shapes};
 use rsruckig::roots::resolvent_arguments;
 use rsruckig::{hand_in, trace};
 
-const NUMBERS: [u8; 17] = [0, 1, 2, 2, 3, 3, 4, 5, 6, 7, 0x11, 0x12, 0x12, 0x13, 0x13, 0x14, 0x15];
+const NUMBERS: [u8; 18] =
+    [0, 1, 2, 2, 3, 3, 4, 5, 6, 7, 8, 0x11, 0x12, 0x12, 0x13, 0x13, 0x14, 0x15];
 
-/// How many quartics were compared, how many lines had their causes tried, and how many of
-/// those have the cause of a root that does not exist.
+/// How many quartics were compared, how many lines had their causes tried, how many of those
+/// have the cause of a root that does not exist, and how many of kind 08 are at rest.
 #[derive(Default)]
 pub struct Tried {
     pub quartics: usize,
     pub causes: usize,
     pub marked: usize,
+    pub rests: usize,
 }
 
 pub fn test(seed: u64, count: u64) -> Tried {
@@ -40,6 +42,9 @@ pub fn test(seed: u64, count: u64) -> Tried {
         assert_eq!(traced, untraced);
         if let Some(shape) = answer.ok().filter(|kind| kind.has_answers()).and_then(Kind::shape) {
             tried.quartics += compare_quartics(shape, request);
+        }
+        if request.starts_with(b"08") {
+            tried.rests += rest_to_rest::test(request, &traced) as usize;
         }
         if let [b'1', b'1'..=b'5', ..] = request[..] {
             let lent = random.pick(&[727, 728, 731, 732, 732, 732, 732, 732]);

@@ -1,4 +1,4 @@
-//! Document 01, 'Moves worked through', and its whole case.
+//! Document 01, 'Moves worked through', and its whole case; and the move of document 02, Paper 4.
 
 use cases::kinds::{Asks, Kind, Shape};
 use cases::line::Line;
@@ -69,6 +69,7 @@ pub fn test() -> usize {
     let replaced = check(Check { a0: 1.0, label: LABEL_VEL, ..time(THREE, 1.0) });
     let all_one = shape(Shape::Acc0Acc1Vel, 7.0, 8.0, 2.0);
     let rest = shape(Shape::Acc0Acc1, 6.0, 6.0, 2.0);
+    let rest_to_rest = shape(Shape::RestToRest, 6.0, 6.0, 2.0);
 
     let rows = [
         check(AS_IT_IS).yes,
@@ -87,6 +88,7 @@ pub fn test() -> usize {
         all_one.yes && all_one.numbers[..7] == [1.0; 7],
         !shape(Shape::Acc0Acc1Vel, 7.0, 8.0, 1.5).yes,
         !rest.yes && rest.numbers[1] == -1.0,
+        rest_to_rest.yes && rest_to_rest.numbers[..7] == [1.0, 1.0, 1.0, 0.0, 1.0, 1.0, 1.0],
         2f64.sqrt().to_bits() == 0x3FF6_A09E_667F_3BCD,
         quartic_inserts(),
         whole_case(),

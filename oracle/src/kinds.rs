@@ -2,7 +2,7 @@
 
 use crate::frame::{CAUSES_PLACES, QUARTICS_PLACES, RECORD_PLACES};
 
-/// The five shapes of step 2.
+/// The five shapes of step 2, and the fourth with Paper 4's t[1] from rest to rest.
 #[derive(Clone, Copy, PartialEq, Debug)]
 pub enum Shape {
     Acc0Acc1Vel,
@@ -10,6 +10,7 @@ pub enum Shape {
     Acc0Vel,
     Acc0Acc1,
     Acc0,
+    RestToRest,
 }
 
 impl Shape {
@@ -38,7 +39,7 @@ pub struct Kind {
     pub asks: Asks,
 }
 
-pub const COUNT: usize = 13;
+pub const COUNT: usize = 14;
 
 pub static KINDS: [Kind; COUNT] = [
     Kind { number: 0x00, bytes: 148, places: RECORD_PLACES, asks: Asks::Check },
@@ -49,6 +50,7 @@ pub static KINDS: [Kind; COUNT] = [
     Kind { number: 0x05, bytes: 97, places: RECORD_PLACES, asks: Asks::Shape(Shape::Acc0) },
     Kind { number: 0x06, bytes: 97, places: QUARTICS_PLACES, asks: Asks::Quartics(Shape::Acc1Vel) },
     Kind { number: 0x07, bytes: 97, places: QUARTICS_PLACES, asks: Asks::Quartics(Shape::Acc0Vel) },
+    Kind { number: 0x08, bytes: 97, places: RECORD_PLACES, asks: Asks::Shape(Shape::RestToRest) },
     Kind { number: 0x11, bytes: 97, places: CAUSES_PLACES, asks: Asks::Causes(Shape::Acc0Acc1Vel) },
     Kind { number: 0x12, bytes: 147, places: CAUSES_PLACES, asks: Asks::Causes(Shape::Acc1Vel) },
     Kind { number: 0x13, bytes: 147, places: CAUSES_PLACES, asks: Asks::Causes(Shape::Acc0Vel) },

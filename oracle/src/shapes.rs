@@ -1,5 +1,5 @@
-//! Kinds 01 to 05, and what 11 to 15 have in common with them: one shape from a default
-//! record.
+//! Kinds 01 to 05 and 08, and what 11 to 15 have in common with them: one shape from a
+//! default record.
 
 use crate::kinds::Shape;
 use crate::quartics::{need, polynoms};
@@ -69,6 +69,7 @@ fn ask(
         Shape::Acc0Vel => solver.time_acc0_vel(profile, v_max, v_min, a_max, a_min, j_max),
         Shape::Acc0Acc1 => solver.time_acc0_acc1(profile, v_max, v_min, a_max, a_min, j_max),
         Shape::Acc0 => solver.time_acc0(profile, v_max, v_min, a_max, a_min, j_max),
+        Shape::RestToRest => solver.time_rest_to_rest(profile, v_max, v_min, a_max, a_min, j_max),
     }
 }
 
