@@ -1,4 +1,4 @@
--- Kinds 01 to 05, and 11 to 15 with count and cause: what a shape answers to a frame. Definitions only.
+-- Kinds 01 to 05 and 08, and 11 to 15 with count and cause: what a shape answers to a frame. Definitions only.
 use mathlib.Core.Bool.{Bool, cond}
 use mathlib.Core.List.{List}
 use Prim.Native.Nat.{ℕ}

@@ -1,5 +1,5 @@
-// Kinds 01 to 05: a shape on a default profile after `set_boundary`; kinds 11 to 15: the same, with count and cause;
-// kinds 06 and 07: the quartics of a shape. The twelve numbers, the solver and the quartics are worked out once.
+// Kinds 01 to 05 and 08: a shape on a default profile after `set_boundary`; kinds 11 to 15: the same, with count and
+// cause; kinds 06 and 07: the quartics of a shape. The twelve numbers, the solver and the quartics are worked out once.
 use labels::start_labels;
 use line_frame::first_answer;
 use line_frame::move_numbers;

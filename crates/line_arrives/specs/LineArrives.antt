@@ -30,7 +30,7 @@ abbrev pub numberIn : List ℕ → ℕ → Float
 numberIn characters i = numberAt (byteAt (bytesOf characters)) i
 
 -- ---- the line: what its kind asks, and its twelve numbers
--- kinds 01 to 05; and 11 to 15, with count and cause
+-- kinds 01 to 05 and 08; and 11 to 15, with count and cause
 pub record AsksShape (line : List ℕ) : Type 0 where
   pub shape : Shape
   pub causes : Bool

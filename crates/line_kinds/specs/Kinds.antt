@@ -5,7 +5,7 @@ use mathlib.Core.List.{List, [], _∷_}
 use Prim.Native.Nat.{ℕ, _*_}
 use lib.Dec.{eqb}
 use Rattle.step2_solver.specs.declared.Shape.{Shape}
-use Rattle.step2_solver.specs.declared.Shape.the-variants.{Acc0Acc1Vel, Acc1Vel, Acc0Vel, Acc0Acc1, Acc0}
+use Rattle.step2_solver.specs.declared.Shape.the-variants.{Acc0Acc1Vel, Acc1Vel, Acc0Vel, Acc0Acc1, Acc0, RestToRest}
 use Rattle.line_kinds.specs.declared.Asks.{Asks}
 use Rattle.line_kinds.specs.declared.Asks.the-variants.{NoKind, OfCheck, OfShape, OfQuartics, OfCauses}
 use Rattle.line_kinds.specs.declared.Row.{Row}
@@ -50,6 +50,7 @@ takesRoots Acc1Vel = true
 takesRoots Acc0Vel = true
 takesRoots Acc0Acc1 = false
 takesRoots Acc0 = false
+takesRoots RestToRest = false
 
 -- ---- the table
 pub record Kind : Type 0 where
@@ -69,6 +70,7 @@ kinds =
     ∷ kind 0x05 97 (OfShape Acc0)
     ∷ kind 0x06 97 (OfQuartics Acc1Vel)
     ∷ kind 0x07 97 (OfQuartics Acc0Vel)
+    ∷ kind 0x08 97 (OfShape RestToRest)
     ∷ kind 0x11 97 (OfCauses Acc0Acc1Vel)
     ∷ kind 0x12 147 (OfCauses Acc1Vel)
     ∷ kind 0x13 147 (OfCauses Acc0Vel)

@@ -46,6 +46,7 @@ pub fn takes_roots(shape: Shape) -> bool
         Shape::Acc0Vel => true,
         Shape::Acc0Acc1 => false,
         Shape::Acc0 => false,
+        Shape::RestToRest => false,
     }
 }
 
@@ -93,6 +94,11 @@ pub fn row_of(kind: u8) -> Row
             bytes: 97,
             places: QUARTICS,
             asks: Asks::OfQuartics(Shape::Acc0Vel),
+        },
+        0x08 => Row {
+            bytes: 97,
+            places: RECORD,
+            asks: Asks::OfShape(Shape::RestToRest),
         },
         0x11 => Row {
             bytes: 97,

@@ -110,7 +110,7 @@ need-lt Nothing = lit≤ tt
 need-lt Cube = lit≤ tt
 need-lt Resolvent = lit≤ tt
 
--- ---- kinds 00 to 05: the head and six rows
+-- ---- kinds 00 to 05 and 08: the head and six rows
 rows : (n : Numbers) → Bytes (rowsOf n)
 unfolding rowsOf
 rows n =

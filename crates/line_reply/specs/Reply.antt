@@ -1,5 +1,5 @@
--- The replies: of kinds 00 to 05 the verdict and the whole record, in 364 bytes; of kinds 11 to 15 the same with count
--- and cause, in 366; of kinds 06 and 07 two quartics, in 114. Definitions only.
+-- The replies: of kinds 00 to 05 and 08 the verdict and the whole record, in 364 bytes; of kinds 11 to 15 the same with
+-- count and cause, in 366; of kinds 06 and 07 two quartics, in 114. Definitions only.
 use mathlib.Core.Bool.{true, false, cond}
 use mathlib.Core.List.{List, [], _∷_, _++_}
 use Prim.Native.Nat.{ℕ}

@@ -1,4 +1,4 @@
-// The reply of kinds 00 to 05: a verdict and the whole record.
+// The reply of kinds 00 to 05 and 08: a verdict and the whole record.
 use super::stores::put_row;
 use labels::direction_number;
 use labels::label_number;

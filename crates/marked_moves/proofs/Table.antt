@@ -1,5 +1,5 @@
--- The moves that document 01 works through, as lines: each gets the verdict and the numbers that the document gives.
--- Computed; assumes nothing.
+-- The moves that documents 01 and 02 work through, as lines: each gets the verdict and the numbers that the document
+-- gives. Computed; assumes nothing.
 use mathlib.Core.Bool.{true}
 use mathlib.Core.Path.{_≡_, refl}
 use lib.Ieee.{ofBits, toBits, lt, le, eq, neg, add, sub, mul, div}
@@ -24,6 +24,7 @@ use Rattle.time_acc0_acc1_vel.specs.TimeAcc0Acc1Vel.{acc0Acc1VelUdudApplies, ac
 use Rattle.time_acc0_acc1_vel.specs.TimeAcc0Acc1Vel.{acc0Acc1VelUdudTimes, acc0Acc1VelUdud}
 use Rattle.time_acc0_acc1.specs.TimeAcc0Acc1.{acc0Acc1RestApplies, acc0Acc1RestH1, acc0Acc1RestH2, acc0Acc1RestJf}
 use Rattle.time_acc0_acc1.specs.TimeAcc0Acc1.{acc0Acc1RestT1, acc0Acc1RestTimes, acc0Acc1Rest}
+use Rattle.time_acc0_acc1.specs.RestToRest.{restToRestT1, restToRest}
 use Rattle.step2_attempt.specs.Attempt.{attemptOf, tryOf, triedOf}
 use Rattle.line_kinds.specs.Kinds.{rowOf}
 use Rattle.line_frame.specs.Frame.{wordAt}
@@ -45,7 +46,7 @@ unfolding ofBits toBits lt le eq neg add sub mul div absOf integrateOf squareRoo
     acc0Acc1VelUdduApplies acc0Acc1VelUdduRadicand acc0Acc1VelUdduH1 acc0Acc1VelUdduT1 acc0Acc1VelUdduTimes
     acc0Acc1VelUddu acc0Acc1VelUdudApplies acc0Acc1VelUdudT1 acc0Acc1VelUdudT3 acc0Acc1VelUdudTimes acc0Acc1VelUdud
     acc0Acc1RestApplies acc0Acc1RestH1 acc0Acc1RestH2 acc0Acc1RestJf acc0Acc1RestT1 acc0Acc1RestTimes acc0Acc1Rest
-    timingOf attemptOf tryOf triedOf
+    restToRestT1 restToRest timingOf attemptOf tryOf triedOf
     rowOf wordAt checkNumbersOf moveOf rootAnswerOf headOf rowsOf replyBytesOf countsFit countsSuit questionsOf
     checkedOf shapeLineOf replyOf repliedOf answerOf table
 marked-moves = refl

@@ -1,5 +1,5 @@
--- The moves that document 01 works through, as rows of one table: each move is a line, and its row says what the line
--- entry answers. The root of 2 and the quartic are no lines: their rows are of `sqrtOf`, `rootsOf` and `sortedOf`.
+-- The moves that documents 01 and 02 work through, as rows of one table: each move is a line, and its row says what the
+-- line entry answers. The root of 2 and the quartic are no lines: their rows are of `sqrtOf`, `rootsOf` and `sortedOf`.
 -- Definitions only.
 use mathlib.Core.Bool.{Bool, true, false, _&&_}
 use mathlib.Core.List.{List, [], _∷_, _++_}
@@ -68,7 +68,7 @@ checked signs label t a0 pf vf v a =
     answered
     (0x00 ∷ signs ∷ label ∷ 0 ∷ numbersBytes (t ++ (#0 ∷ #0 ∷ a0 ∷ pf ∷ vf ∷ #0 ∷ #1 ∷ v ∷ neg v ∷ a ∷ neg a ∷ [])))
 
--- Kinds 01 and 04, from rest in 0 to rest in pf: j_max is 1, the limits are plus and minus v and a.
+-- Kinds 01, 04 and 08, from rest in 0 to rest in pf: j_max is 1, the limits are plus and minus v and a.
 abbrev moved : (kind : ℕ) (tf pf v a : Float) → Answer
 moved kind tf pf v a =
     answered (kind ∷ numbersBytes (tf ∷ #0 ∷ #0 ∷ #0 ∷ pf ∷ #0 ∷ #0 ∷ v ∷ neg v ∷ a ∷ neg a ∷ #1 ∷ []))
@@ -155,6 +155,9 @@ table =
     -- kind 04, tf 6, pf 6, v 2, a 1: no, t[1] = -1
     ∷ no (moved 0x04 #6 #6 #2 #1)
     ∷ same (numberAt (byteAt (bytesOf (moved 0x04 #6 #6 #2 #1 .places))) 12) (neg #1)
+    -- kind 08, the same move: yes, times 1 1 1 0 1 1 1
+    ∷ yes (moved 0x08 #6 #6 #2 #1)
+    ∷ all-same (times (moved 0x08 #6 #6 #2 #1)) (#1 ∷ #1 ∷ #1 ∷ #0 ∷ #1 ∷ #1 ∷ #1 ∷ [])
     -- root of 2
     ∷ same (sqrtOf #2) (ofBits binary64 0x3FF6_A09E_667F_3BCD)
     -- quartic -3 2 0 0 inserts 0, 1, 2, in this order, and tries them in this order
@@ -167,7 +170,7 @@ table =
     ∷ eqb (answerOf [] (replicate replyMost 0) .number) 1
     ∷ []
 
--- every row is as the document says
+-- every row is as the documents say
 abbrev pub right : List Bool → Bool
 right [] = true
 right (r ∷ rs) = r && right rs

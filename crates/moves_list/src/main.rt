@@ -1,6 +1,6 @@
-// `check`, the five shapes and their quartics by value, on a stored list of accepted lines, kinds 00 to 07 of
-// document 01 and 11 to 15 of document 02: the reply of each. The list is made by oracle/lists.sh, seed 1: its lists
-// kind00, shapes and causes, one after the other, with the oracle's replies.
+// `check`, the shapes and their quartics by value, on a stored list of accepted lines, kinds 00 to 07 of document 01
+// and 08 and 11 to 15 of document 02: the reply of each. The list is made by oracle/lists.sh, seed 1: its lists kind00,
+// shapes, causes and rest, one after the other, with the oracle's replies.
 use hex::decode;
 use labels::label;
 use labels::signs;
@@ -24,6 +24,7 @@ use position_third_step2::time_acc0_acc1;
 use position_third_step2::time_acc0_acc1_vel;
 use position_third_step2::time_acc0_vel;
 use position_third_step2::time_acc1_vel;
+use position_third_step2::time_rest_to_rest;
 use profile::Checked;
 use profile::Profile;
 use profile::in_place::Verdict;
@@ -110,6 +111,7 @@ fn tried(shape: Shape, frame: &[u8; FRAME]) -> Checked {
         ),
         Shape::Acc0Acc1 => time_acc0_acc1(s, q, x.v_max, x.v_min, x.a_max, x.a_min, x.j_max),
         Shape::Acc0 => time_acc0(s, q, x.v_max, x.v_min, x.a_max, x.a_min, x.j_max),
+        Shape::RestToRest => time_rest_to_rest(s, q, x.v_max, x.v_min, x.a_max, x.a_min, x.j_max),
     }
 }
 

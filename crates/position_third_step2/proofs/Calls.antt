@@ -21,7 +21,7 @@ use Rattle.step2_solver.specs.declared.PositionThirdOrderStep2.{PositionThirdOr
 use Rattle.step2_solver.specs.declared.Limits.{Limits}
 use Rattle.step2_solver.specs.declared.Move.{Move}
 use Rattle.step2_solver.specs.declared.Shape.{Shape}
-use Rattle.step2_solver.specs.declared.Shape.the-variants.{Acc0Acc1Vel, Acc1Vel, Acc0Vel, Acc0Acc1, Acc0}
+use Rattle.step2_solver.specs.declared.Shape.the-variants.{Acc0Acc1Vel, Acc1Vel, Acc0Vel, Acc0Acc1, Acc0, RestToRest}
 use Rattle.step2_solver.specs.declared.Trial.{Trial}
 use Rattle.step2_quartics.specs.declared.Quartics.{Quartics}
 use Rattle.time_acc0_vel.specs.TimeAcc0Vel.{acc0VelTooShort}
@@ -58,6 +58,7 @@ module _ (s : PositionThirdOrderStep2) (l : Limits) (q : Quartics) (first second
       (eight _ _ (q .uddu) (q .udud) first second)
   attempts-few Acc0Acc1 = lit≤ tt
   attempts-few Acc0 = lit≤ tt
+  attempts-few RestToRest = lit≤ tt
 
   -- ---- from the profile of a line, which has count 0 and cause 12
   module _ (shape : Shape) (x : Move) where

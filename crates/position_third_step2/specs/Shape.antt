@@ -1,5 +1,5 @@
--- The five shapes: the attempts that each makes, in their order, and what comes of them on a profile. Definitions only.
-use mathlib.Core.Bool.{cond}
+-- The shapes: the attempts that each makes, in their order, and what comes of them on a profile. Definitions only.
+use mathlib.Core.Bool.{Bool, true, false, cond}
 use mathlib.Core.List.{List, [], _∷_, _++_}
 use lib.Ieee.{Float}
 use Rattle.float.specs.Ops.{#0}
@@ -13,9 +13,10 @@ use Rattle.step2_solver.specs.declared.Move.{Move}
 use Rattle.step2_solver.specs.declared.Limits.{Limits}
 use Rattle.step2_solver.specs.declared.Trial.{Trial}
 use Rattle.step2_solver.specs.declared.Shape.{Shape}
-use Rattle.step2_solver.specs.declared.Shape.the-variants.{Acc0Acc1Vel, Acc1Vel, Acc0Vel, Acc0Acc1, Acc0}
+use Rattle.step2_solver.specs.declared.Shape.the-variants.{Acc0Acc1Vel, Acc1Vel, Acc0Vel, Acc0Acc1, Acc0, RestToRest}
 use Rattle.time_acc0_acc1_vel.specs.TimeAcc0Acc1Vel.{acc0Acc1VelUddu, acc0Acc1VelUdud}
 use Rattle.time_acc0_acc1.specs.TimeAcc0Acc1.{acc0Acc1Of}
+use Rattle.time_acc0_acc1.specs.RestToRest.{restToRestOf}
 use Rattle.time_acc0.specs.TimeAcc0.{acc0First, acc0Second, acc0Third}
 use Rattle.step2_quartics.specs.declared.Quartics.{Quartics}
 use Rattle.time_acc1_vel.specs.TimeAcc1Vel.{acc1VelUdduWindow, acc1VelUddu, acc1VelUdudWindow, acc1VelUdud}
@@ -25,7 +26,16 @@ use Rattle.step2_quartics.specs.Quartics.{quarticsOf}
 use Rattle.step2_attempt.specs.Attempt.{triedOf}
 use Rattle.step2_over_roots.specs.OverRoots.{overRoots}
 
--- The Rust's attempts, in its order. q are UDDU's quartic and UDUD's, first and second what is answered for them.
+abbrev pub isRestToRest : Shape → Bool
+isRestToRest Acc0Acc1Vel = false
+isRestToRest Acc1Vel = false
+isRestToRest Acc0Vel = false
+isRestToRest Acc0Acc1 = false
+isRestToRest Acc0 = false
+isRestToRest RestToRest = true
+
+-- The Rust's attempts, in its order, and that of kind 08. q are UDDU's quartic and UDUD's, first and second what is
+-- answered for them.
 abbrev pub attemptsOf : Shape → PositionThirdOrderStep2 → Limits → Quartics → RootAnswer → RootAnswer → List Trial
 attemptsOf Acc0Acc1Vel s l q first second = acc0Acc1VelUddu s l ∷ acc0Acc1VelUdud s l ∷ []
 attemptsOf Acc1Vel s l q first second =
@@ -37,6 +47,7 @@ attemptsOf Acc0Vel s l q first second =
     ++ overRoots (acc0VelUdud s l (acc0VelUdudWindow s l)) (q .udud) second)
 attemptsOf Acc0Acc1 s l q first second = acc0Acc1Of s l ∷ []
 attemptsOf Acc0 s l q first second = acc0First s l ∷ acc0Second s l ∷ acc0Third s l ∷ []
+attemptsOf RestToRest s l q first second = restToRestOf s l ∷ []
 
 -- a shape, with quartics and answers that are handed in
 abbrev pub shapeOf : Shape → PositionThirdOrderStep2 → Limits → Quartics → RootAnswer → RootAnswer → Profile → Checked

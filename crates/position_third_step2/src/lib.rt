@@ -1,4 +1,5 @@
-// position_third_step2.rs: five shapes of step 2, each a few attempts at seven times, tried in the Rust's order.
+// position_third_step2.rs: five shapes of step 2, each a few attempts at seven times, tried in the Rust's order; and
+// the fourth with the t[1] of document 02, Paper 4.
 mod acc0;
 mod acc0_acc1;
 mod acc0_acc1_vel;
@@ -14,6 +15,7 @@ use step2_solver::PositionThirdOrderStep2;
 use step2_solver::Shape;
 ghost use mathlib.Core.Path.{_≡_};
 ghost use Rattle.step2_solver.specs.declared.Shape.the-variants.{Acc0Acc1Vel, Acc1Vel, Acc0Vel, Acc0Acc1, Acc0};
+ghost use Rattle.step2_solver.specs.declared.Shape.the-variants.{RestToRest};
 ghost use Rattle.position_third_step2.specs.Shape.{askedOf, limits, unasked};
 
 // Any shape by value: on the row of the profile.
@@ -148,4 +150,28 @@ pub fn time_acc0(
     };
     let none = RootAnswer::CubeRoot(0.0);
     asked(Shape::Acc0, s, l, none, none, profile)
+}
+
+// Document 02's, kind 08.
+pub fn time_rest_to_rest(
+    s: PositionThirdOrderStep2,
+    profile: Profile,
+    v_max: f64,
+    v_min: f64,
+    a_max: f64,
+    a_min: f64,
+    j_max: f64,
+) -> Checked
+    ensures { λ r. ⌜ r ≡ askedOf RestToRest s (limits «v_max» «v_min» «a_max» «a_min» «j_max»)
+        unasked unasked profile ⌝ }
+{
+    let l = Limits {
+        v_max,
+        v_min,
+        a_max,
+        a_min,
+        j_max,
+    };
+    let none = RootAnswer::CubeRoot(0.0);
+    asked(Shape::RestToRest, s, l, none, none, profile)
 }

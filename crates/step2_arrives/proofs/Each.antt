@@ -1,4 +1,4 @@
--- What holds of each attempt of the five shapes holds of all that a shape makes, whatever it is (`all-attempts`). An
+-- What holds of each attempt of the shapes holds of all that a shape makes, whatever it is (`all-attempts`). An
 -- attempt at a root is asked about roots of which Q is known. Assumes nothing.
 use mathlib.Core.Bool.{Bool, true, false, cond}
 use mathlib.Core.List.{List, [], _∷_, _++_, map}
@@ -10,7 +10,7 @@ use Rattle.roots.specs.Quartic.{polynomRootsOf}
 use Rattle.step2_solver.specs.declared.PositionThirdOrderStep2.{PositionThirdOrderStep2}
 use Rattle.step2_solver.specs.declared.Limits.{Limits}
 use Rattle.step2_solver.specs.declared.Shape.{Shape}
-use Rattle.step2_solver.specs.declared.Shape.the-variants.{Acc0Acc1Vel, Acc1Vel, Acc0Vel, Acc0Acc1, Acc0}
+use Rattle.step2_solver.specs.declared.Shape.the-variants.{Acc0Acc1Vel, Acc1Vel, Acc0Vel, Acc0Acc1, Acc0, RestToRest}
 use Rattle.step2_solver.specs.declared.Trial.{Trial}
 use Rattle.step2_quartics.specs.declared.Quartics.{Quartics}
 use Rattle.time_acc0_acc1_vel.specs.TimeAcc0Acc1Vel.{acc0Acc1VelUddu, acc0Acc1VelUdud}
@@ -18,6 +18,7 @@ use Rattle.time_acc1_vel.specs.TimeAcc1Vel.{acc1VelUdduWindow, acc1VelUddu, acc
 use Rattle.time_acc0_vel.specs.TimeAcc0Vel.{acc0VelTooShort}
 use Rattle.time_acc0_vel.specs.TimeAcc0Vel.{acc0VelUdduWindow, acc0VelUddu, acc0VelUdudWindow, acc0VelUdud}
 use Rattle.time_acc0_acc1.specs.TimeAcc0Acc1.{acc0Acc1Of}
+use Rattle.time_acc0_acc1.specs.RestToRest.{restToRestOf}
 use Rattle.time_acc0.specs.TimeAcc0.{acc0First, acc0Second, acc0Third}
 use Rattle.step2_over_roots.specs.OverRoots.{overRoots}
 use Rattle.position_third_step2.specs.Shape.{attemptsOf}
@@ -33,6 +34,7 @@ pub record Each (P : Trial → Type 0) (Q : Float → Type 0) (s : PositionThird
   pub acc0-first : P (acc0First s l)
   pub acc0-second : P (acc0Second s l)
   pub acc0-third : P (acc0Third s l)
+  pub rest-to-rest : P (restToRestOf s l)
 
 -- Q is known of the roots that an answer gives, whatever the quartic
 abbrev pub OfRoots : (Float → Type 0) → RootAnswer → Type 0
@@ -66,3 +68,4 @@ module _ (P : Trial → Type 0) (Q : Float → Type 0) where
       (at-both _ _ (h .acc0-vel-uddu) (h .acc0-vel-udud) q first second e e')
   all-attempts h Acc0Acc1 q first second e e' = (h .acc0-acc1, tt)
   all-attempts h Acc0 q first second e e' = (h .acc0-first, (h .acc0-second, (h .acc0-third, tt)))
+  all-attempts h RestToRest q first second e e' = (h .rest-to-rest, tt)

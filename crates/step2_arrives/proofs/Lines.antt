@@ -1,4 +1,4 @@
--- Every line's profile starts its move, so the theorem holds of every line that asks one of the five shapes.
+-- Every line's profile starts its move, so the theorem holds of every line that asks a shape.
 -- Assumes nothing.
 use mathlib.Core.Path.{_≡_, refl}
 use mathlib.Core.Bool.{true}

@@ -42,6 +42,7 @@ use Rattle.time_acc1_vel.specs.TimeAcc1Vel.{acc1VelUddu, acc1VelUdud}
 use Rattle.time_acc0_vel.specs.TimeAcc0Vel.{acc0VelUddu, acc0VelUdud}
 use Rattle.time_acc0_acc1.specs.TimeAcc0Acc1.{acc0Acc1RestApplies, acc0Acc1Rest, acc0Acc1UdduJf}
 use Rattle.time_acc0_acc1.specs.TimeAcc0Acc1.{acc0Acc1UdduTimes, acc0Acc1Uddu}
+use Rattle.time_acc0_acc1.specs.RestToRest.{restToRest}
 use Rattle.time_acc0.specs.TimeAcc0.{acc0FirstRadicand, acc0FirstTimes, acc0First}
 use Rattle.time_acc0.specs.TimeAcc0.{acc0SecondH0, acc0SecondTimes}
 use Rattle.time_acc0.specs.TimeAcc0.{acc0Second, acc0ThirdH1}
@@ -84,6 +85,10 @@ module _ (s : PositionThirdOrderStep2) (l : Limits) where
   unfolding acc0Acc1Rest
   acc0-acc1-rest h = absurd (false≢true h)
 
+  rest-to-rest : NanIfMarked (restToRest s l)
+  unfolding restToRest
+  rest-to-rest h = absurd (false≢true h)
+
   -- jf, and so t[0] of (a_max - a0) / jf
   acc0-acc1-uddu : NanIfMarked (acc0Acc1Uddu s l)
   unfolding acc0Acc1Uddu acc0Acc1UdduTimes acc0Acc1UdduJf
@@ -119,6 +124,8 @@ module _ (s : PositionThirdOrderStep2) (l : Limits) where
         acc0-first = acc0-first;
         acc0-second = acc0-second;
         acc0-third = acc0-third;
+        rest-to-rest =
+            either (acc0Acc1RestApplies s) (restToRest s l) (acc0Acc1Uddu s l) rest-to-rest acc0-acc1-uddu;
       }
 
 -- ---- what comes of such an attempt, on any profile

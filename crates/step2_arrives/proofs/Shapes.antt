@@ -29,6 +29,7 @@ use Rattle.step2_arrives.proofs.Trials.{acc0-acc1-vel-uddu-known, acc0-
 use Rattle.step2_arrives.proofs.Trials.{acc1-vel-uddu-known, acc1-vel-udud-known}
 use Rattle.step2_arrives.proofs.Trials.{acc0-vel-uddu-known, acc0-vel-udud-known, acc0-acc1-known}
 use Rattle.step2_arrives.proofs.Trials.{acc0-first-known, acc0-second-known, acc0-third-known}
+use Rattle.step2_arrives.proofs.Trials.{rest-to-rest-known}
 
 -- ---- every trial of a shape is known: the roots of a quartic of any coefficients are f64s where the answer is one
 roots-fit : (answer : RootAnswer) → AnswerFits answer → OfRoots Fits64 answer
@@ -47,6 +48,7 @@ each-known n =
       acc0-first = acc0-first-known n;
       acc0-second = acc0-second-known n;
       acc0-third = acc0-third-known n;
+      rest-to-rest = rest-to-rest-known n;
     }
 
 -- ---- every shape, with quartics of any coefficients

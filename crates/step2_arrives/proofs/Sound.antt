@@ -64,7 +64,7 @@ module _ {m : Move} where
   sound-cond true h k = h tt
   sound-cond false h k = k tt
 
-  pub sound-try : (k : Trial) → Known m k → AlwaysSound m (tryOf (limitsOf m) k)
+  sound-try : (k : Trial) → Known m k → AlwaysSound m (tryOf (limitsOf m) k)
   unfolding tryOf attemptOf timingOf
   sound-try k h q s =
       sound-cond (k .made)

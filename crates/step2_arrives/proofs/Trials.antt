@@ -1,8 +1,8 @@
--- Of every trial of the five shapes enough is known: by the facts of its times, for whatever its formulas hand to them.
--- The root is any f64: only the formulas of the times count. So another t[1] in the rest formula asks for no more than
--- `rest-sound` does. Assumes nothing.
+-- Of every trial of the shapes enough is known: by the facts of its times, for whatever its formulas hand to them. The
+-- root is any f64, and so is the t[1] of the rest formula (`rest-known`): only the formulas of the times count. Assumes
+-- nothing.
 use mathlib.Core.Path.{refl}
-use mathlib.Core.Bool.{Bool, false, cond}
+use mathlib.Core.Bool.{Bool, cond}
 use lib.Dec.{T}
 use lib.Ieee.{Float}
 use lib.Ieee.Fits.{sub-fits, add-fits, div-fits, cond-fits}
@@ -10,9 +10,7 @@ use lib.Ieee.Bits.{ofBits-fits}
 use Rattle.sqrt.specs.Sqrt.{squareRootOf, f64Of, sqrtOf}
 use Rattle.sqrt.proofs.Laws.{sqrtOf-fits}
 use Rattle.labels.specs.declared.ReachedLimits.{ReachedLimits}
-use Rattle.labels.specs.declared.ReachedLimits.the-variants.{Acc0Acc1}
 use Rattle.labels.specs.declared.ControlSigns.{ControlSigns}
-use Rattle.labels.specs.declared.ControlSigns.the-variants.{UDDU}
 use Rattle.labels.specs.Tests.{testsOf}
 use Rattle.roots.specs.Fits.{Fits64}
 use Rattle.step2_solver.specs.declared.PositionThirdOrderStep2.{PositionThirdOrderStep2}
@@ -28,8 +26,10 @@ use Rattle.time_acc0_acc1_vel.specs.TimeAcc0Acc1Vel.{acc0Acc1VelUdudApplies, ac
 use Rattle.time_acc0_acc1_vel.specs.TimeAcc0Acc1Vel.{acc0Acc1VelUddu, acc0Acc1VelUdud, acc0Acc1VelUdduTimes}
 use Rattle.time_acc0_acc1_vel.specs.TimeAcc0Acc1Vel.{acc0Acc1VelUdudTimes}
 use Rattle.time_acc0_acc1.specs.TimeAcc0Acc1.{acc0Acc1RestApplies, acc0Acc1RestH1, acc0Acc1RestH2, acc0Acc1RestJf}
-use Rattle.time_acc0_acc1.specs.TimeAcc0Acc1.{acc0Acc1RestT1, acc0Acc1RestTimes, acc0Acc1UdduRadicand, acc0Acc1UdduJf}
-use Rattle.time_acc0_acc1.specs.TimeAcc0Acc1.{acc0Acc1Rest, acc0Acc1Uddu, acc0Acc1UdduT1, acc0Acc1UdduTimes}
+use Rattle.time_acc0_acc1.specs.TimeAcc0Acc1.{acc0Acc1RestT1, acc0Acc1RestTimes, acc0Acc1RestTrial, acc0Acc1Rest}
+use Rattle.time_acc0_acc1.specs.TimeAcc0Acc1.{acc0Acc1UdduRadicand, acc0Acc1UdduJf, acc0Acc1UdduT1}
+use Rattle.time_acc0_acc1.specs.TimeAcc0Acc1.{acc0Acc1UdduTimes, acc0Acc1Uddu}
+use Rattle.time_acc0_acc1.specs.RestToRest.{restToRestT1, restToRest}
 use Rattle.time_acc0.specs.TimeAcc0.{acc0FirstRadicand, acc0SecondH0a, acc0SecondH0b, acc0SecondRadicand, acc0SecondH0}
 use Rattle.time_acc0.specs.TimeAcc0.{acc0SecondH1, acc0SecondT1, acc0ThirdH0a, acc0ThirdH0b, acc0ThirdRadicand}
 use Rattle.time_acc0.specs.TimeAcc0.{acc0ThirdH1, acc0ThirdH2}
@@ -45,9 +45,8 @@ use Rattle.step2_times.specs.Facts.{FormulaNumbers}
 use Rattle.step2_times.proofs.Facts.{acc0-acc1-vel-uddu, acc0-acc1-vel-udud, acc1-vel-uddu, acc1-vel-udud}
 use Rattle.step2_times.proofs.Facts.{acc0-vel-uddu, acc0-vel-udud, acc0-acc1-rest, acc0-acc1-uddu, acc0-first}
 use Rattle.step2_times.proofs.Facts.{acc0-second, acc0-third}
-use Rattle.step2_attempt.specs.Attempt.{tryOf}
 use Rattle.step2_arrives.specs.Moves.{MoveNumbers}
-use Rattle.step2_arrives.proofs.Sound.{Known, known, none-known, known-cond, AlwaysSound, sound-try}
+use Rattle.step2_arrives.proofs.Sound.{Known, known, none-known, known-cond}
 use Rattle.step2_arrives.proofs.Made.{Timed, replacing, leaving}
 
 module _ {m : Move} (n : MoveNumbers m) where
@@ -149,17 +148,14 @@ module _ {m : Move} (n : MoveNumbers m) where
         (λ t. acc0-vel-udud (m .tf) (m .p0) (m .v0) (m .a0) (m .pf) (m .vf) (m .af) a-max a-min j-max numbers r h1
         (unfold acc0VelUdudH1 in search (div-fits)))))
 
-  -- ---- `time_acc0_acc1`, which computes its own jerk: the rest formula with any t[1] that is an f64
+  -- ---- `time_acc0_acc1`, which computes its own jerk: the rest formula with any jerk and any t[1] that are f64s
   module _ (jf t1 : Float) (f : Fits64 jf) (g : Fits64 t1) (z : T (acc0Acc1RestApplies s)) where
-    rest-known : Known m (trialOf false (acc0Acc1RestTimes s a-max a-min jf t1) UDDU Acc0Acc1 jf)
+    rest-known : Known m (acc0Acc1RestTrial s l jf t1)
     rest-known =
         known
         (replacing (unfold acc0Acc1RestTimes in search (sub-fits, div-fits, ofBits-fits))
         (λ t. acc0-acc1-rest (m .tf) (m .p0) (m .v0) (m .a0) (m .pf) (m .vf) (m .af) a-max a-min j-max numbers jf t1 z))
         f
-
-    pub rest-sound : AlwaysSound m (tryOf l (trialOf false (acc0Acc1RestTimes s a-max a-min jf t1) UDDU Acc0Acc1 jf))
-    rest-sound = sound-try (trialOf false (acc0Acc1RestTimes s a-max a-min jf t1) UDDU Acc0Acc1 jf) rest-known
 
   acc0-acc1-rest-known : T (acc0Acc1RestApplies s) → Known m (acc0Acc1Rest s l)
   unfolding acc0Acc1Rest
@@ -167,6 +163,14 @@ module _ {m : Move} (n : MoveNumbers m) where
       let h1 = acc0Acc1RestH1 s a-max a-min in let h2 = acc0Acc1RestH2 s a-max a-min in
       rest-known (acc0Acc1RestJf h1 h2) (acc0Acc1RestT1 s a-max a-min h1 h2)
       (unfold acc0Acc1RestJf in search (div-fits)) (unfold acc0Acc1RestT1 in search (div-fits)) z
+
+  -- with document 02's t[1]
+  rest-to-rest-rest-known : T (acc0Acc1RestApplies s) → Known m (restToRest s l)
+  unfolding restToRest
+  rest-to-rest-rest-known z =
+      let jf = acc0Acc1RestJf (acc0Acc1RestH1 s a-max a-min) (acc0Acc1RestH2 s a-max a-min) in
+      rest-known jf (restToRestT1 s a-max a-min jf) (unfold acc0Acc1RestJf in search (div-fits))
+      (unfold restToRestT1 in search (div-fits)) z
 
   acc0-acc1-uddu-known : Known m (acc0Acc1Uddu s l)
   unfolding acc0Acc1Uddu
@@ -180,6 +184,9 @@ module _ {m : Move} (n : MoveNumbers m) where
 
   pub acc0-acc1-known : Known m (cond (acc0Acc1RestApplies s) (acc0Acc1Rest s l) (acc0Acc1Uddu s l))
   acc0-acc1-known = known-cond (acc0Acc1RestApplies s) acc0-acc1-rest-known (λ z. acc0-acc1-uddu-known)
+
+  pub rest-to-rest-known : Known m (cond (acc0Acc1RestApplies s) (restToRest s l) (acc0Acc1Uddu s l))
+  rest-to-rest-known = known-cond (acc0Acc1RestApplies s) rest-to-rest-rest-known (λ z. acc0-acc1-uddu-known)
 
   -- ---- `time_acc0`, under labels that replace nothing
   pub acc0-first-known : Known m (acc0First s l)

@@ -4,7 +4,7 @@ use Rattle.float.specs.Ops.{#0}
 use Rattle.step2_solver.specs.declared.PositionThirdOrderStep2.{PositionThirdOrderStep2}
 use Rattle.step2_solver.specs.declared.Limits.{Limits}
 use Rattle.step2_solver.specs.declared.Shape.{Shape}
-use Rattle.step2_solver.specs.declared.Shape.the-variants.{Acc0Acc1Vel, Acc1Vel, Acc0Vel, Acc0Acc1, Acc0}
+use Rattle.step2_solver.specs.declared.Shape.the-variants.{Acc0Acc1Vel, Acc1Vel, Acc0Vel, Acc0Acc1, Acc0, RestToRest}
 use Rattle.step2_quartics.specs.declared.Quartics.{Quartics}
 use Rattle.time_acc1_vel.specs.TimeAcc1Vel.{acc1VelUdduPolynom, acc1VelUdudPolynom}
 use Rattle.time_acc0_vel.specs.TimeAcc0Vel.{acc0VelPh1, acc0VelUdduPolynom, acc0VelUdudPolynom}
@@ -34,3 +34,4 @@ quarticsOf Acc1Vel s l = acc1VelQuarticsOf s l
 quarticsOf Acc0Vel s l = acc0VelQuarticsOf s l
 quarticsOf Acc0Acc1 s l = noQuarticsOf
 quarticsOf Acc0 s l = noQuarticsOf
+quarticsOf RestToRest s l = noQuarticsOf

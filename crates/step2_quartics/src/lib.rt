@@ -53,5 +53,6 @@ pub fn quartics_of(shape: Shape, s: PositionThirdOrderStep2, l: Limits) -> Quart
         Shape::Acc0Acc1Vel => no_quartics(),
         Shape::Acc0Acc1 => no_quartics(),
         Shape::Acc0 => no_quartics(),
+        Shape::RestToRest => no_quartics(),
     }
 }

@@ -35,13 +35,14 @@ pub struct Limits {
     pub j_max: f64,
 }
 
-// The five shapes.
+// The Rust's five shapes; and the fourth with the t[1] of document 02, Paper 4, from rest to rest.
 pub enum Shape {
     Acc0Acc1Vel,
     Acc1Vel,
     Acc0Vel,
     Acc0Acc1,
     Acc0,
+    RestToRest,
 }
 
 // The boundary numbers and their powers. The Rust keeps five limits and a flag besides, which these shapes never read.

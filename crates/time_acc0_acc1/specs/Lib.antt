@@ -1,1 +1,2 @@
 pub mod TimeAcc0Acc1
+pub mod RestToRest

@@ -42,14 +42,19 @@ acc0Acc1RestTimes s «a_max» «a_min» jf t1 =
     let t6 = t4 in
     record { t0 = t0; t1 = t1; t2 = t2; t3 = t3; t4 = t4; t5 = t5; t6 = t6 }
 
+-- with any jerk and any t[1]
+abbrev pub acc0Acc1RestTrial : PositionThirdOrderStep2 → Limits → (jf t1 : Float) → Trial
+acc0Acc1RestTrial s l jf t1 =
+    let times = acc0Acc1RestTimes s (l .«a_max») (l .«a_min») jf t1 in
+    trialOf false times UDDU Acc0Acc1 jf
+
 unfoldable pub acc0Acc1Rest : PositionThirdOrderStep2 → Limits → Trial
 acc0Acc1Rest s l =
     let h1 = acc0Acc1RestH1 s (l .«a_max») (l .«a_min») in
     let h2 = acc0Acc1RestH2 s (l .«a_max») (l .«a_min») in
     let jf = acc0Acc1RestJf h1 h2 in
     let t1 = acc0Acc1RestT1 s (l .«a_max») (l .«a_min») h1 h2 in
-    let times = acc0Acc1RestTimes s (l .«a_max») (l .«a_min») jf t1 in
-    trialOf false times UDDU Acc0Acc1 jf
+    acc0Acc1RestTrial s l jf t1
 
 -- UDDU
 

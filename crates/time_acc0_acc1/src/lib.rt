@@ -1,4 +1,6 @@
 // position_third_step2.rs, `time_acc0_acc1`: its expressions and attempts, by the Rust's names, in its order.
+// Document 02's kind 08 is the same with another t[1] from rest to rest, and shares all else.
+mod rest_to_rest;
 
 use labels::ControlSigns;
 use labels::ReachedLimits;
@@ -12,10 +14,12 @@ use step2_solver::Trial;
 use step2_solver::times_of;
 use step2_solver::trial_of;
 ghost use mathlib.Core.Path.{_≡_};
+ghost use mathlib.Core.Bool.{cond};
 ghost use Rattle.time_acc0_acc1.specs.TimeAcc0Acc1.{acc0Acc1RestApplies, acc0Acc1RestH1, acc0Acc1RestH2};
 ghost use Rattle.time_acc0_acc1.specs.TimeAcc0Acc1.{acc0Acc1RestT1, acc0Acc1RestTimes, acc0Acc1UdduRadicand};
 ghost use Rattle.time_acc0_acc1.specs.TimeAcc0Acc1.{acc0Acc1UdduJf, acc0Acc1UdduT1, acc0Acc1UdduTimes};
-ghost use Rattle.time_acc0_acc1.specs.TimeAcc0Acc1.{acc0Acc1Rest, acc0Acc1Uddu, acc0Acc1Of};
+ghost use Rattle.time_acc0_acc1.specs.TimeAcc0Acc1.{acc0Acc1Rest, acc0Acc1Uddu};
+ghost use Rattle.time_acc0_acc1.specs.RestToRest.{restToRestT1, restToRest, acc0Acc1By};
 
 // `f64::EPSILON`, 2^-52.
 const EPSILON: f64 = 2.220446049250313e-16;
@@ -58,13 +62,33 @@ fn rest_times(s: PositionThirdOrderStep2, a_max: f64, a_min: f64, jf: f64, t1: f
     times_of(t0, t1, t2, t3, t4, t5, t6)
 }
 
-fn rest(s: PositionThirdOrderStep2, l: Limits) -> Trial
-    ensures { λ r. ⌜ r ≡ acc0Acc1Rest s l ⌝ }
+// From rest to rest it is document 02's, for the same jerk.
+fn chosen_t1(
+    rest_to_rest: bool,
+    s: PositionThirdOrderStep2,
+    a_max: f64,
+    a_min: f64,
+    h1: f64,
+    h2: f64,
+    jf: f64,
+) -> f64
+    ensures { λ r. ⌜ r ≡ cond «rest_to_rest» (restToRestT1 s «a_max» «a_min» jf)
+        (acc0Acc1RestT1 s «a_max» «a_min» h1 h2) ⌝ }
+{
+    if rest_to_rest {
+        rest_to_rest::t1(s, a_max, a_min, jf)
+    } else {
+        rest_t1(s, a_max, a_min, h1, h2)
+    }
+}
+
+fn rest(rest_to_rest: bool, s: PositionThirdOrderStep2, l: Limits) -> Trial
+    ensures { λ r. ⌜ r ≡ cond «rest_to_rest» (restToRest s l) (acc0Acc1Rest s l) ⌝ }
 {
     let h1 = rest_h1(s, l.a_max, l.a_min);
     let h2 = rest_h2(s, l.a_max, l.a_min);
     let jf = h2 / h1;
-    let t1 = rest_t1(s, l.a_max, l.a_min, h1, h2);
+    let t1 = chosen_t1(rest_to_rest, s, l.a_max, l.a_min, h1, h2, jf);
     let times = rest_times(s, l.a_max, l.a_min, jf, t1);
     trial_of(
         false,
@@ -158,12 +182,12 @@ fn uddu(s: PositionThirdOrderStep2, l: Limits) -> Trial
     )
 }
 
-// The one attempt that is made.
-pub fn attempt(s: PositionThirdOrderStep2, l: Limits) -> Trial
-    ensures { λ r. ⌜ r ≡ acc0Acc1Of s l ⌝ }
+// The one attempt that is made: the Rust's, or kind 08's.
+pub fn attempt(rest_to_rest: bool, s: PositionThirdOrderStep2, l: Limits) -> Trial
+    ensures { λ r. ⌜ r ≡ acc0Acc1By «rest_to_rest» s l ⌝ }
 {
     if rest_applies(s) {
-        rest(s, l)
+        rest(rest_to_rest, s, l)
     } else {
         uddu(s, l)
     }

@@ -1,4 +1,4 @@
--- The trials of a shape's attempts, in their order, are the trials that the shape makes: the eleven attempts are all.
+-- The trials of a shape's attempts, in their order, are the trials that the shape makes: the attempts named are all.
 -- Assumes nothing.
 use mathlib.Core.Path.{_≡_, refl}
 use mathlib.Core.Bool.{Bool, true, false, cond}
@@ -8,7 +8,7 @@ use Rattle.step2_solver.specs.declared.PositionThirdOrderStep2.{PositionThirdOr
 use Rattle.step2_solver.specs.declared.Limits.{Limits}
 use Rattle.step2_solver.specs.declared.Trial.{Trial}
 use Rattle.step2_solver.specs.declared.Shape.{Shape}
-use Rattle.step2_solver.specs.declared.Shape.the-variants.{Acc0Acc1Vel, Acc1Vel, Acc0Vel, Acc0Acc1, Acc0}
+use Rattle.step2_solver.specs.declared.Shape.the-variants.{Acc0Acc1Vel, Acc1Vel, Acc0Vel, Acc0Acc1, Acc0, RestToRest}
 use Rattle.step2_quartics.specs.declared.Quartics.{Quartics}
 use Rattle.time_acc0_vel.specs.TimeAcc0Vel.{acc0VelTooShort}
 use Rattle.time_acc0_acc1.specs.TimeAcc0Acc1.{acc0Acc1RestApplies}
@@ -31,3 +31,4 @@ whole Acc1Vel s l q first second = refl
 whole Acc0Vel s l q first second = none-of-both (acc0VelTooShort s (l .«a_max») (l .«j_max»)) _ _
 whole Acc0Acc1 s l q first second = one-of-two (acc0Acc1RestApplies s) _ _
 whole Acc0 s l q first second = refl
+whole RestToRest s l q first second = one-of-two (acc0Acc1RestApplies s) _ _

@@ -1,4 +1,4 @@
--- The premises of demand 3 at the line can be met by each attempt of the five shapes: for each there is a line whose
+-- The premises of demand 3 at the line can be met by each attempt of the shapes: for each there is a line whose
 -- answer is 0, whose reply says yes by this attempt and is within the sizes; and so it arrives.
 -- Computed; assumes nothing.
 use mathlib.Core.Path.{_≡_, refl}
@@ -42,6 +42,7 @@ use Rattle.time_acc0_vel.specs.TimeAcc0Vel.{acc0VelUdudWindow, acc0VelUdud}
 use Rattle.time_acc0_acc1.specs.TimeAcc0Acc1.{acc0Acc1RestApplies, acc0Acc1RestH1, acc0Acc1RestH2, acc0Acc1RestJf}
 use Rattle.time_acc0_acc1.specs.TimeAcc0Acc1.{acc0Acc1RestT1, acc0Acc1RestTimes, acc0Acc1Rest, acc0Acc1UdduRadicand}
 use Rattle.time_acc0_acc1.specs.TimeAcc0Acc1.{acc0Acc1UdduJf, acc0Acc1UdduT1, acc0Acc1UdduTimes, acc0Acc1Uddu}
+use Rattle.time_acc0_acc1.specs.RestToRest.{restToRestT1, restToRest}
 use Rattle.time_acc0.specs.TimeAcc0.{acc0FirstRadicand, acc0FirstTimes, acc0First, acc0SecondH0a, acc0SecondH0b}
 use Rattle.time_acc0.specs.TimeAcc0.{acc0SecondRadicand, acc0SecondH0, acc0SecondH1, acc0SecondT1, acc0SecondTimes}
 use Rattle.time_acc0.specs.TimeAcc0.{acc0Second, acc0ThirdH0a, acc0ThirdH0b, acc0ThirdRadicand, acc0ThirdH1}
@@ -62,7 +63,8 @@ use Rattle.line_arrives.specs.LineArrives.{byteIn, AsksShape}
 use Rattle.line_arrives.proofs.Theorem.{yes-arrives}
 use Rattle.worked_lines.specs.Attempts.{Attempt, Acc0Acc1Vel-UDDU, Acc0Acc1Vel-UDUD, Acc1Vel-UDDU, Acc1Vel-UDUD}
 use Rattle.worked_lines.specs.Attempts.{Acc0Vel-UDDU, Acc0Vel-UDUD, Acc0Acc1-rest, Acc0Acc1-UDDU}
-use Rattle.worked_lines.specs.Attempts.{Acc0-first, Acc0-second, Acc0-third, shapeBy, trialIn}
+use Rattle.worked_lines.specs.Attempts.{Acc0-first, Acc0-second, Acc0-third, RestToRest-rest, RestToRest-UDDU}
+use Rattle.worked_lines.specs.Attempts.{shapeBy, trialIn}
 use Rattle.worked_lines.specs.Lines.{lineFor}
 use Rattle.worked_lines.specs.Worked.{answerFor, Worked}
 use Rattle.worked_lines.proofs.Tests.{all, each, passes, number-0, says-yes, is-made, label-is, signs-are}
@@ -115,6 +117,8 @@ owns =
     ∷ own Acc0-first
     ∷ own Acc0-second
     ∷ own Acc0-third
+    ∷ own RestToRest-rest
+    ∷ own RestToRest-UDDU
     ∷ []
 
 -- in one list, so that they are computed by one proof
@@ -134,9 +138,9 @@ unfolding isNan ofBits toBits lt le eq neg add sub mul div absOf integrateOf squ
     acc0Acc1UdduRadicand acc0Acc1UdduJf acc0Acc1UdduT1 acc0Acc1UdduTimes acc0Acc1Uddu acc0FirstRadicand acc0FirstTimes
     acc0First acc0SecondH0a acc0SecondH0b acc0SecondRadicand acc0SecondH0 acc0SecondH1 acc0SecondT1 acc0SecondTimes
     acc0Second acc0ThirdH0a acc0ThirdH0b acc0ThirdRadicand acc0ThirdH1 acc0ThirdH2 acc0ThirdTimes acc0Third
-    acc1VelQuarticsOf acc0VelQuarticsOf attemptOf tryOf triedOf rowOf wordAt moveOf rootAnswerOf headOf rowsOf
-    replyBytesOf bothSuit countsFit countsSuit questionsOf shapeLineOf replyOf repliedOf answerOf unit mag sign val
-    lasts
+    restToRestT1 restToRest acc1VelQuarticsOf acc0VelQuarticsOf attemptOf tryOf triedOf rowOf wordAt moveOf
+    rootAnswerOf headOf rowsOf replyBytesOf bothSuit countsFit countsSuit questionsOf shapeLineOf replyOf repliedOf
+    answerOf unit mag sign val lasts
 all-own = tt
 
 -- the kind of the attempt's line asks the shape that makes it
@@ -153,6 +157,8 @@ met Acc0Acc1-UDDU = (refl, each owns all-own 7)
 met Acc0-first = (refl, each owns all-own 8)
 met Acc0-second = (refl, each owns all-own 9)
 met Acc0-third = (refl, each owns all-own 10)
+met RestToRest-rest = (refl, each owns all-own 11)
+met RestToRest-UDDU = (refl, each owns all-own 12)
 
 pub worked-arrive : (attempt : Attempt) → Worked attempt (lineFor attempt)
 worked-arrive attempt = worked attempt (lineFor attempt) (met attempt)

@@ -1,4 +1,5 @@
--- The eleven attempts of the five shapes by name, and which of them a reply is of. Definitions only.
+-- The attempts of the shapes by name, the Rust's eleven and kind 08's two, and which of them a reply is of. Definitions
+-- only.
 use mathlib.Core.Path.{_≡_}
 use mathlib.Core.Bool.{cond}
 use mathlib.Core.List.{List, [], _∷_, _++_}
@@ -11,7 +12,7 @@ use Rattle.step2_solver.specs.declared.PositionThirdOrderStep2.{PositionThirdOr
 use Rattle.step2_solver.specs.declared.Limits.{Limits}
 use Rattle.step2_solver.specs.declared.Trial.{Trial}
 use Rattle.step2_solver.specs.declared.Shape.{Shape}
-use Rattle.step2_solver.specs.declared.Shape.the-variants.{Acc0Acc1Vel, Acc1Vel, Acc0Vel, Acc0Acc1, Acc0}
+use Rattle.step2_solver.specs.declared.Shape.the-variants.{Acc0Acc1Vel, Acc1Vel, Acc0Vel, Acc0Acc1, Acc0, RestToRest}
 use Rattle.step2_solver.specs.New.{solverOf, limitsOf}
 use Rattle.step2_solver.specs.Trials.{noTrial}
 use Rattle.time_acc0_acc1_vel.specs.TimeAcc0Acc1Vel.{acc0Acc1VelUddu, acc0Acc1VelUdud}
@@ -19,6 +20,7 @@ use Rattle.time_acc1_vel.specs.TimeAcc1Vel.{acc1VelUdduWindow, acc1VelUddu, acc
 use Rattle.time_acc0_vel.specs.TimeAcc0Vel.{acc0VelTooShort}
 use Rattle.time_acc0_vel.specs.TimeAcc0Vel.{acc0VelUdduWindow, acc0VelUddu, acc0VelUdudWindow, acc0VelUdud}
 use Rattle.time_acc0_acc1.specs.TimeAcc0Acc1.{acc0Acc1RestApplies, acc0Acc1Rest, acc0Acc1Uddu}
+use Rattle.time_acc0_acc1.specs.RestToRest.{restToRest}
 use Rattle.time_acc0.specs.TimeAcc0.{acc0First, acc0Second, acc0Third}
 use Rattle.step2_quartics.specs.declared.Quartics.{Quartics}
 use Rattle.step2_attempt.specs.Attempt.{sevenOf}
@@ -38,6 +40,7 @@ pub data Attempt : Type 0 where
   Acc0Vel-UDDU Acc0Vel-UDUD : Attempt
   Acc0Acc1-rest Acc0Acc1-UDDU : Attempt
   Acc0-first Acc0-second Acc0-third : Attempt
+  RestToRest-rest RestToRest-UDDU : Attempt
 
 -- the shape that makes it
 abbrev pub shapeBy : Attempt → Shape
@@ -52,6 +55,8 @@ shapeBy Acc0Acc1-UDDU = Acc0Acc1
 shapeBy Acc0-first = Acc0
 shapeBy Acc0-second = Acc0
 shapeBy Acc0-third = Acc0
+shapeBy RestToRest-rest = RestToRest
+shapeBy RestToRest-UDDU = RestToRest
 
 -- Its trials: one at each root where it tries roots, none where the shape does not come to it.
 -- `whole` in proofs/Whole.antt proves that those of a shape's attempts, in their order, are all that the shape makes.
@@ -71,6 +76,8 @@ trialsBy Acc0Acc1-UDDU s l q first second = cond (acc0Acc1RestApplies s) [] (acc
 trialsBy Acc0-first s l q first second = acc0First s l ∷ []
 trialsBy Acc0-second s l q first second = acc0Second s l ∷ []
 trialsBy Acc0-third s l q first second = acc0Third s l ∷ []
+trialsBy RestToRest-rest s l q first second = cond (acc0Acc1RestApplies s) (restToRest s l ∷ []) []
+trialsBy RestToRest-UDDU s l q first second = cond (acc0Acc1RestApplies s) [] (acc0Acc1Uddu s l ∷ [])
 
 -- the attempts of a shape, in their order: what f gives for each, together
 abbrev pub inOrder : (Attempt → List Trial) → Shape → List Trial
@@ -79,6 +86,7 @@ inOrder f Acc1Vel = f Acc1Vel-UDDU ++ f Acc1Vel-UDUD
 inOrder f Acc0Vel = f Acc0Vel-UDDU ++ f Acc0Vel-UDUD
 inOrder f Acc0Acc1 = f Acc0Acc1-rest ++ f Acc0Acc1-UDDU
 inOrder f Acc0 = f Acc0-first ++ f Acc0-second ++ f Acc0-third
+inOrder f RestToRest = f RestToRest-rest ++ f RestToRest-UDDU
 
 -- trial i of an attempt for the numbers and the root answers of a line
 abbrev pub trialIn : Attempt → List ℕ → ℕ → Trial

@@ -1,4 +1,4 @@
--- A line for each of the eleven attempts. Definitions only.
+-- A line for each attempt. Definitions only.
 use mathlib.Core.List.{List, [], _∷_, _++_}
 use Prim.Native.Nat.{ℕ}
 use lib.Ieee.{Float, binary64, ofBits, neg}
@@ -7,7 +7,7 @@ use Rattle.hex.specs.Hex.{hexOf}
 use Rattle.line_reply.specs.Reply.{numbersBytes}
 use Rattle.worked_lines.specs.Attempts.{Attempt, Acc0Acc1Vel-UDDU, Acc0Acc1Vel-UDUD, Acc1Vel-UDDU, Acc1Vel-UDUD}
 use Rattle.worked_lines.specs.Attempts.{Acc0Vel-UDDU, Acc0Vel-UDUD, Acc0Acc1-rest, Acc0Acc1-UDDU}
-use Rattle.worked_lines.specs.Attempts.{Acc0-first, Acc0-second, Acc0-third}
+use Rattle.worked_lines.specs.Attempts.{Acc0-first, Acc0-second, Acc0-third, RestToRest-rest, RestToRest-UDDU}
 
 -- whole numbers that the Rust's formulas do not name
 abbrev #7 : Float
@@ -44,8 +44,8 @@ abbrev roots : (count x0 x1 x2 : ℕ) → List ℕ
 roots count x0 x1 x2 = count ∷ numbersBytes (ofBits binary64 x0 ∷ ofBits binary64 x1 ∷ ofBits binary64 x2 ∷ [])
 
 -- A row: the kind; tf; p0, v0, a0; pf, vf, af; v_max, v_min, a_max, a_min, j_max; the root answers. Every line starts
--- in 0 with the jerk 1. The comment ends with the seven times of the reply, which are exactly these. The root answers
--- are the Rust's own: the roots of the resolvents of UDDU's and of UDUD's quartic, rounded.
+-- in 0 with j_max 1. The comment ends with the seven times of the reply, which are exactly these, unless said. The root
+-- answers are the Rust's own: the roots of the resolvents of UDDU's and of UDUD's quartic, rounded.
 abbrev pub lineFor : Attempt → List ℕ
 -- from rest to rest, document 01's own: 1 1 1 1 1 1 1
 lineFor Acc0Acc1Vel-UDDU = line 0x01 #7 #0 #0 #0 #8 #0 #0 #2 #-2 #1 #-1 #1 []
@@ -78,3 +78,7 @@ lineFor Acc0-first = line 0x05 #5 #0 #0 #0 #6 #1 #0 #2 #-2 #1 #-1 #1 []
 lineFor Acc0-second = line 0x05 #6 #0 #0 #0 #6 #0 #0 #2 #-2 #1 #-1 #1 []
 -- from the acceleration -1 over 1 back to -1: 2 1 1 1 1 0 0
 lineFor Acc0-third = line 0x05 #6 #0 #0 #-1 #4 #1 #-1 #2 #-2 #1 #-1 #1 []
+-- from rest to rest, by kind 08: 0.9 0.7 0.9 0 0.9 0.7 0.9 but for roundings. Kind 04 has t[1] = -1, and says no.
+lineFor RestToRest-rest = line 0x08 #5 #0 #0 #0 #4 #0 #0 #2 #-2 #1 #-1 #1 []
+-- the line of `Acc0Acc1-UDDU` by kind 08: 0 1 1 0 1 1 2
+lineFor RestToRest-UDDU = line 0x08 #6 #0 #0 #1 #3 #0 #1 #2 #-2 #1 #-1 #1 []

@@ -1,1 +1,1 @@
-// Theorems only: for each attempt of the five shapes a line that it answers, computed, and that the line arrives.
+// Theorems only: for each attempt of the shapes a line that it answers, computed, and that the line arrives.

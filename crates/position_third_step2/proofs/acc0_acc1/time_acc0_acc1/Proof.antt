@@ -1,4 +1,4 @@
--- `time_acc0_acc1` in place makes one trial: its rest formula where both end accelerations are 0. Assumes nothing.
+-- `time_acc0_acc1` in place makes one trial, the Rust's or kind 08's. Assumes nothing.
 use Rattle.step2_attempt.proofs.Turns.{last}
 use Rattle.position_third_step2.proofs.acc0_acc1.time_acc0_acc1.Statement.{statement}
 use Rattle.position_third_step2.proofs.acc0_acc1.time_acc0_acc1.Tie as tie
