@@ -39,6 +39,7 @@ LISTS = [
                  ("position_third_step2/Calls", "proofs", "no-call"),
                  ("position_third_step2/Calls", "proofs", "some-call"),
                  ("line_places/ActsAs", "proofs", "acts-as")], ["demand 1", "demand 2"], []),
+    ("paper 4", [("line_places/RestToRest", "proofs", "as-04")], ["demand 1", "demand 2"], []),
     ("paper 6", [("sqrt/Laws", "proofs", "marked-are"), ("profile/Marks", "proofs", "mark-apart"),
                  ("profile/Marks", "proofs", "kept-from-check"), ("profile_arrives/NanTimes", "proofs", "nan-time"),
                  ("step2_attempt/Calls", "proofs", "last-counts"),
@@ -49,7 +50,7 @@ LISTS = [
     ("other theorems", [("sqrt/Nearest", "proofs", "sqrt-nearest"), ("float/Halving", "proofs", "halving"),
                         ("marked_moves/Table", "proofs", "marked-moves"),
                         ("worked_lines/Worked", "proofs", "worked-arrive")],
-     ["demand 1", "demand 2", "paper 1", "paper 6", "demand 3"], []),
+     ["demand 1", "demand 2", "paper 1", "paper 4", "paper 6", "demand 3"], []),
 ]
 
 def read(path):

@@ -2,9 +2,11 @@
 
 use crate::{port, rust};
 use cases::any_line::sometimes_broken;
+use cases::attempt::at_rest;
 use cases::kinds::Kind;
 use cases::line::Line;
 use cases::random::Random;
+use plain::{digits, frame};
 use std::time::{Duration, Instant};
 
 const BATCH: u64 = 1_000_000;
@@ -18,8 +20,27 @@ const MOST: usize = 760;
 struct Counts {
     /// By number.
     answers: [u64; 9],
-    /// Lines of kind 08 by their verdict, and by that of the same line of kind 04.
+    /// Lines of kind 08 with both ends at rest, by their verdict and by that of the same line
+    /// of kind 04. Where an end is not at rest, the whole reply is kind 04's.
     rests: [[u64; 2]; 2],
+}
+
+impl Counts {
+    /// An accepted line of kind 08, and its reply.
+    fn add_rest(&mut self, line: &Line, reply: &[u8; MOST]) {
+        let mut request = line.characters.clone();
+        request[1] = b'4';
+        let mut other = *reply;
+        assert_eq!(rust::answer(&request, &mut other).0, 0, "kind 04 has the questions of 08");
+        let mut bytes = [0; frame::LONGEST];
+        digits::read(&request, &mut bytes);
+        if at_rest(&frame::numbers(&bytes, frame::NUMBERS)) {
+            let [by_08, by_04] = [reply, &other].map(|places| (places[1] == b'1') as usize);
+            self.rests[by_08][by_04] += 1;
+        } else {
+            assert!(*reply == other, "elsewhere kind 08 is kind 04");
+        }
+    }
 }
 
 pub fn count(seed: u64, millions: u64, kinds: &[&Kind]) -> u64 {
@@ -37,7 +58,10 @@ pub fn count(seed: u64, millions: u64, kinds: &[&Kind]) -> u64 {
     }
     println!("answers 0 to 8: {:?}", counts.answers);
     let [[neither, by_04], [by_08, both]] = counts.rests;
-    println!("kind 08 and the same of 04, yes: both {both}, 08 alone {by_08}, 04 alone {by_04}, neither {neither}");
+    println!(
+        "kind 08 at rest, beside 04: yes of both {both}, of 08 alone {by_08}, of 04 alone {by_04}, \
+         of neither {neither}"
+    );
     println!(
         "{} lines in all, {differences} differences, {:.1} s",
         millions * BATCH,
@@ -86,8 +110,7 @@ fn batch(
             let [wanted, got] = answers[index];
             counts.answers[wanted.0 as usize] += 1;
             if wanted.0 == 0 && line.characters.starts_with(b"08") {
-                let by_04 = rust_says_yes_as_04(line);
-                counts.rests[(by_rust[index][1] == b'1') as usize][by_04 as usize] += 1;
+                counts.add_rest(line, &by_rust[index]);
             }
             if wanted == got && by_rust[index] == by_port[index] {
                 continue;
@@ -104,14 +127,6 @@ fn batch(
         }
     }
     *differences - before
-}
-
-fn rust_says_yes_as_04(line: &Line) -> bool {
-    let mut request = line.characters.clone();
-    request[1] = b'4';
-    let mut reply = [0; MOST];
-    assert_eq!(rust::answer(&request, &mut reply).0, 0, "kind 04 has the questions of 08");
-    reply[1] == b'1'
 }
 
 fn first(rust: &[u8], port: &[u8]) -> String {
