@@ -2,7 +2,7 @@
 -- of its first character, but for the four places more that it asks for, and its reply is that line's with count and
 -- cause after it. Assumes nothing.
 use mathlib.Core.Path.{_≡_, refl, sym, ap, _∙_}
-use mathlib.Core.Bool.{true, cond, false≢true}
+use mathlib.Core.Bool.{true, false, cond, true≢false}
 use mathlib.Core.List.{List, [], _∷_, _++_}
 use Prim.Native.Nat.{ℕ, _+_, _*_}
 use native.Mathlib.Omega.{arith}
@@ -15,6 +15,7 @@ use Rattle.labels.specs.Causes.{causeNumber}
 use Rattle.profile.specs.declared.Checked.{Checked}
 use Rattle.step2_solver.specs.declared.Shape.{Shape}
 use Rattle.step2_solver.specs.declared.Shape.the-variants.{Acc0Acc1Vel, Acc1Vel, Acc0Vel, Acc0Acc1, Acc0, RestToRest}
+use Rattle.position_third_step2.specs.Shape.{isRestToRest}
 use Rattle.line_kinds.specs.declared.Asks.the-variants.{OfShape, OfCauses}
 use Rattle.line_kinds.specs.declared.Asks.{Asks}
 use Rattle.line_kinds.specs.declared.Row.{Row}
@@ -28,7 +29,7 @@ use Rattle.line_reply.specs.Reply.{replyBytesOf, causesBytesOf}
 use Rattle.line_answers.specs.ShapeLine.{shapeLineOf}
 use Rattle.line_answers.specs.FrameAnswer.{replyOf, repliedOf}
 use Rattle.lines.specs.Answer.{answerOf}
-use Rattle.line_places.specs.ActsAs.{digitFor, withCauses, ActsAs}
+use Rattle.line_places.specs.ActsAs.{digitFor, ActsAs}
 use Rattle.line_places.proofs.Places.{numbered, of-asks}
 
 -- ---- what a shape is asked and reads of a frame stands after the kind
@@ -102,8 +103,8 @@ module _ (shape : Shape) (a b d n : ℕ) (rest : List ℕ) where
     acts : ActsAs shape (a ∷ d ∷ rest) (b ∷ d ∷ rest)
     acts = record { number = number-is; reply = rw (e, f) (reply-begins shape x y (bytesOf rest)) }
 
--- 48 and 49 are the digits 0 and 1
-pub acts-as : (shape : Shape) → withCauses shape ≡ true → (rest : List ℕ)
+-- 48 and 49 are the digits 0 and 1; there is no kind 18
+pub acts-as : (shape : Shape) → isRestToRest shape ≡ false → (rest : List ℕ)
     → ActsAs shape (49 ∷ digitFor shape ∷ rest) (48 ∷ digitFor shape ∷ rest)
 unfolding rowOf
 acts-as Acc0Acc1Vel h rest = acts Acc0Acc1Vel 49 48 49 97 rest refl refl refl
@@ -111,4 +112,4 @@ acts-as Acc1Vel h rest = acts Acc1Vel 49 48 50 147 rest refl refl refl
 acts-as Acc0Vel h rest = acts Acc0Vel 49 48 51 147 rest refl refl refl
 acts-as Acc0Acc1 h rest = acts Acc0Acc1 49 48 52 97 rest refl refl refl
 acts-as Acc0 h rest = acts Acc0 49 48 53 97 rest refl refl refl
-acts-as RestToRest h rest = absurd (false≢true h)
+acts-as RestToRest h rest = absurd (true≢false h)

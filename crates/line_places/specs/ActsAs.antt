@@ -1,6 +1,6 @@
 -- That a line of kinds 11 to 15 acts as a line of kinds 01 to 05. Definitions only.
 use mathlib.Core.Path.{_≡_}
-use mathlib.Core.Bool.{Bool, true, false, cond}
+use mathlib.Core.Bool.{cond}
 use mathlib.Core.List.{List, [], _∷_, _++_}
 use Prim.Native.Nat.{ℕ}
 use lib.Dec.{eqb, leb}
@@ -24,15 +24,6 @@ digitFor Acc0Vel = 51
 digitFor Acc0Acc1 = 52
 digitFor Acc0 = 53
 digitFor RestToRest = 56
-
--- the shapes that can be asked for count and cause, the Rust's: there is no kind 18
-abbrev pub withCauses : Shape → Bool
-withCauses Acc0Acc1Vel = true
-withCauses Acc1Vel = true
-withCauses Acc0Vel = true
-withCauses Acc0Acc1 = true
-withCauses Acc0 = true
-withCauses RestToRest = false
 
 -- a line that asks a shape for count and cause, and another that asks it without
 pub record ActsAs (shape : Shape) (line like : List ℕ) : Type 0 where

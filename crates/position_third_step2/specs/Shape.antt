@@ -26,6 +26,7 @@ use Rattle.step2_quartics.specs.Quartics.{quarticsOf}
 use Rattle.step2_attempt.specs.Attempt.{triedOf}
 use Rattle.step2_over_roots.specs.OverRoots.{overRoots}
 
+-- kind 08's, which is no shape of the Rust's
 abbrev pub isRestToRest : Shape → Bool
 isRestToRest Acc0Acc1Vel = false
 isRestToRest Acc1Vel = false
