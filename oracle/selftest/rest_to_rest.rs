@@ -1,6 +1,6 @@
 //! Lines of kind 08: the number is that of the same line of kind 04, and so is the reply, unless
 //! both ends are at rest. There the times are kind 04's but for t[1], which is document 02's,
-//! worked out once more from the line's numbers, and t[5], which has to do with it.
+//! worked out once more from the line's numbers, and t[5], which is what is left of tf.
 
 use cases::attempt::at_rest;
 use oracle::{digits, frame};
@@ -28,8 +28,15 @@ pub fn test(request: &[u8], places: &[u8; frame::LONGEST_REPLY]) -> bool {
         assert_eq!(times[phase].to_bits(), of_04[phase].to_bits(), "t[{phase}] of {text}");
     }
     let t1 = document_02(&numbers);
-    assert!(times[1].to_bits() == t1.to_bits() || times[1].is_nan() && t1.is_nan(), "{text}");
+    assert!(same(times[1], t1), "t[1] of {text}");
+    let t5 = numbers[0] - (2.0 * times[0] + t1 + 2.0 * times[4]);
+    assert!(same(times[5], t5), "t[5] of {text}");
     true
+}
+
+/// All NaNs as one.
+fn same(one: f64, other: f64) -> bool {
+    one.to_bits() == other.to_bits() || one.is_nan() && other.is_nan()
 }
 
 /// The seven times of a reply.
