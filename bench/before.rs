@@ -1,6 +1,6 @@
 //! Accepted lines of each kind through the line entry of two static libraries, of another
-//! commit and of this one; those of kinds 01 to 05, with another first digit, as lines of kinds
-//! 11 to 15; and those of kind 20 beside the lines inside them.
+//! commit and of this one; and those of kinds 01 to 05, with another first digit, as lines
+//! of kinds 11 to 15.
 //!
 //!   before SEED first|second
 //!
@@ -112,7 +112,7 @@ fn main() {
     for kind in &KINDS {
         let lines = accepted(seed, kind);
         if alike(kind, &lines, before, now) {
-            print(&kind.name(), [(&lines, before), (&lines, now)]);
+            print(&format!("{:02X}", kind.number), [(&lines, before), (&lines, now)]);
         }
     }
     println!("  kinds       as 0.   as 1.   ratio");
@@ -124,15 +124,5 @@ fn main() {
         let mut others = lines.clone();
         others.iter_mut().for_each(|line| line.characters[0] = b'1');
         print(&format!("{number:02X} {:02X}", kind.number), [(&lines, now), (&others, now)]);
-    }
-    println!("  kind 20     inside  as 20   ratio");
-    for kind in KINDS.iter().filter(|kind| kind.inside.is_some()) {
-        let lines = accepted(seed, kind);
-        let mut others = lines.clone();
-        for line in &mut others {
-            let end = line.characters.len() - 16;
-            line.characters = line.characters[2..end].to_vec();
-        }
-        print(&kind.name(), [(&others, now), (&lines, now)]);
     }
 }

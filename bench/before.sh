@@ -1,6 +1,6 @@
 #!/bin/sh
-# Times lines through the static library of `lines` beside that of another commit, lines of kinds 11 to 15 beside the
-# same lines of kinds 01 to 05, and lines of kind 20 beside the lines inside them.
+# Times lines through the static library of `lines` beside that of another commit, and lines of kinds 11 to 15 beside
+# the same lines of kinds 01 to 05.
 #
 #   bench/before.sh ARCHIVE SEED
 #

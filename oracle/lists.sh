@@ -22,7 +22,6 @@ list kind00 3000
 list shapes 4000
 list causes 3000
 list rest 1000
-list moments 1000
 list broken 1000
 
 # The published square roots come with CPython's tests.

@@ -4,8 +4,7 @@
 //!   compare lines SEED MILLIONS [KINDS]   the generator's lines to both; counts differences
 //!   compare speed SEED [KINDS]            time of accepted lines a kind, and the ratios
 //!
-//! KINDS is a list of kinds such as 00,01,15, where 20 is all of kind 20 and 2003 those with a
-//! frame of kind 03 inside; all kinds if not given.
+//! KINDS is a list of kinds such as 00,01,15; all of them if not given.
 
 mod differences;
 mod port;
@@ -41,5 +40,9 @@ fn kinds(list: &[&str]) -> Vec<&'static Kind> {
     let Some(list) = list.first() else {
         return KINDS.iter().collect();
     };
-    list.split(',').flat_map(|word| Kind::named(word).expect("the number of a kind")).collect()
+    let kind = |word| {
+        let number = u8::from_str_radix(word, 16).expect("a kind is two hexadecimal digits");
+        Kind::numbered(number).expect("the number of a kind")
+    };
+    list.split(',').map(kind).collect()
 }

@@ -15,10 +15,10 @@ pub fn print(seed: u64, kinds: &[&Kind]) -> u64 {
     println!(
         "seed {seed}, {LINES} accepted lines a kind, nanoseconds a line, fastest of {TURNS} turns"
     );
-    println!("  kind   Rust   port  ratio");
+    println!("kind   Rust   port  ratio");
     let mut differences = 0;
     for kind in kinds {
-        let name = kind.name();
+        let number = kind.number;
         let mut random = Random::new(seed);
         let mut lines = vec![Line::default(); LINES];
         for line in &mut lines {
@@ -33,9 +33,9 @@ pub fn print(seed: u64, kinds: &[&Kind]) -> u64 {
                 best[side] = best[side].min(start.elapsed().as_nanos() as f64 / LINES as f64);
             }
         }
-        println!("  {name:<4} {:6.0} {:6.0} {:6.2}", best[0], best[1], best[1] / best[0]);
+        println!("  {number:02X} {:6.0} {:6.0} {:6.2}", best[0], best[1], best[1] / best[0]);
         if sums[0] != sums[1] {
-            println!("  {name}: the answers differ");
+            println!("  {number:02X}: the answers differ");
             differences += 1;
         }
     }

@@ -2,7 +2,7 @@
 
 use crate::line::Line;
 use crate::random::Random;
-use crate::{broken_line, check_line, moment_line, shape_line};
+use crate::{broken_line, check_line, shape_line};
 use oracle::kinds::{Asks, Kind};
 
 /// An accepted line of the kind.
@@ -12,7 +12,6 @@ pub fn accepted(random: &mut Random, kind: &Kind, line: &mut Line) {
         Asks::Shape(shape) | Asks::Quartics(shape) | Asks::Causes(shape) => {
             shape_line::write(random, kind, shape, line)
         }
-        Asks::Moment(shape) => moment_line::write(random, kind, shape, line),
     }
 }
 

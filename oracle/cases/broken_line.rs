@@ -2,8 +2,7 @@
 //! characters. A line feed is never put in, as it would end the line.
 
 use crate::line::Line;
-use crate::moment_line;
-use crate::numbers::{edge, not_finite, ordinary};
+use crate::numbers::not_finite;
 use crate::random::Random;
 use oracle::digits::write_byte;
 use oracle::frame;
@@ -18,15 +17,11 @@ pub fn spoil(random: &mut Random, kind: &Kind, line: &mut Line) {
     }
     let faults = random.pick(&[1, 1, 1, 2, 3]);
     for _ in 0..faults {
-        if kind.inside.is_some() && random.once_in(2) {
-            moment(random, kind, line);
-            continue;
-        }
         match random.below(7) {
             0 => length(random, line),
             1 => character(random, line),
             2 => {
-                let byte = random.pick(&[0x09, 0x0A, 0x0C, 0x10, 0x16, 0x20, 0x21, 0x7F, 0x80, 0xFF]);
+                let byte = random.pick(&[0x09, 0x0A, 0x0C, 0x10, 0x16, 0x20, 0x7F, 0x80, 0xFF]);
                 set_byte(line, 0, byte);
             }
             3 => even_length(random, line),
@@ -66,9 +61,7 @@ fn length(random: &mut Random, line: &mut Line) {
             line.characters.resize(2 * frame::LONGEST + 1 + more, b'0');
         }
         _ => {
-            // Kind 20 has lines of up to 312 characters; the others have none above 296.
-            let more = random.pick(&[16, 300]);
-            let many = 298 + random.below(more) as usize;
+            let many = 300 + random.below(300) as usize;
             line.characters.resize(many, b'A');
         }
     }
@@ -85,29 +78,6 @@ fn character(random: &mut Random, line: &mut Line) {
     if let Some(character) = line.characters.get_mut(place) {
         *character =
             if random.once_in(4) { character.to_ascii_lowercase() } else { random.pick(NO_DIGITS) };
-    }
-}
-
-/// What kind 20 has besides: the kind inside, a line that ends before it, the moment, and a
-/// shape that says no.
-fn moment(random: &mut Random, kind: &Kind, line: &mut Line) {
-    match random.below(8) {
-        0 => {
-            let byte = random.pick(&[0x00, 0x06, 0x07, 0x08, 0x09, 0x0A, 0x11, 0x15, 0x20, 0xFF]);
-            set_byte(line, frame::INSIDE, byte);
-        }
-        1 => set_byte(line, frame::INSIDE, random.pick(&[0x01, 0x02, 0x03, 0x04, 0x05])),
-        2 => line.characters.truncate(random.pick(&[2, 4])),
-        3 => set_number(line, kind.bytes - 8, not_finite(random)),
-        4..=5 => {
-            let s = moment_line::outside(random, &line.characters);
-            set_number(line, kind.bytes - 8, s);
-        }
-        _ => {
-            let at = frame::INSIDE + frame::NUMBERS + 8 * random.below(12) as usize;
-            let other = if random.once_in(2) { ordinary(random) } else { edge(random) };
-            set_number(line, at, other);
-        }
     }
 }
 
@@ -129,8 +99,7 @@ fn range(random: &mut Random, kind: &Kind, line: &mut Line) {
         set_byte(line, 1 + random.below(3) as usize, wrong);
     } else if kind.has_answers() {
         let second = random.below(2) as usize;
-        let at = start(kind) + frame::ANSWERS + second * frame::ANSWER_LENGTH;
-        set_byte(line, at, wrong.max(4));
+        set_byte(line, frame::ANSWERS + second * frame::ANSWER_LENGTH, wrong.max(4));
     }
 }
 
@@ -139,27 +108,19 @@ fn range(random: &mut Random, kind: &Kind, line: &mut Line) {
 fn number(random: &mut Random, kind: &Kind, line: &mut Line) {
     let (first, count) =
         if kind.asks == Asks::Check { (frame::CHECK_TIMES, 18) } else { (frame::NUMBERS, 12) };
-    let at = start(kind) + first + 8 * random.below(count) as usize;
-    set_number(line, at, not_finite(random));
+    let at = first + 8 * random.below(count) as usize;
+    let bytes = not_finite(random).to_bits().to_be_bytes();
+    for (index, byte) in bytes.into_iter().enumerate() {
+        set_byte(line, at + index, byte);
+    }
 }
 
 /// Question 7, where the need is not 00.
 fn count(random: &mut Random, kind: &Kind, line: &mut Line) {
     if kind.has_answers() {
         let second = random.below(2) as usize;
-        let at = start(kind) + frame::ANSWERS + second * frame::ANSWER_LENGTH;
+        let at = frame::ANSWERS + second * frame::ANSWER_LENGTH;
         set_byte(line, at, random.pick(&[0, 0, 0, 1, 2, 3]));
-    }
-}
-
-/// Where the frame begins that has the numbers.
-fn start(kind: &Kind) -> usize {
-    kind.inside.map_or(0, |_| frame::INSIDE)
-}
-
-fn set_number(line: &mut Line, at: usize, number: f64) {
-    for (index, byte) in number.to_bits().to_be_bytes().into_iter().enumerate() {
-        set_byte(line, at + index, byte);
     }
 }
 

@@ -6,7 +6,6 @@ pub mod broken_line;
 pub mod check_line;
 pub mod line;
 mod many_roots;
-pub mod moment_line;
 mod motion;
 mod needs;
 pub mod numbers;

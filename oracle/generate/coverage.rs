@@ -1,9 +1,8 @@
 //! Counts what came up, by asking the oracle for each line.
 
 use crate::marks::Marks;
-use crate::moments::Moments;
 use cases::attempt::{at_rest, index_of_call, ATTEMPTS};
-use cases::kinds::{Kind, Shape, COUNT, MOMENT};
+use cases::kinds::{Kind, Shape, COUNT};
 use oracle::quartics::{need, polynoms};
 use oracle::{answer, answer_line, digits, frame, shapes};
 use rsruckig::trace;
@@ -21,7 +20,7 @@ pub const TESTS: usize = 25;
 pub struct Coverage {
     pub lines: u64,
     /// By number; 0 counts the replies.
-    pub refusals: [u64; 11],
+    pub refusals: [u64; 9],
     /// Kind 00 by signs, label and set_limits of the line, then by cause.
     pub checks: [[[[u64; CAUSES]; 2]; 8]; 2],
     /// Kind 00 by the test that said no.
@@ -36,8 +35,6 @@ pub struct Coverage {
     /// both velocities are 0, and by whether the jerk is negative.
     pub rests: [u64; 2],
     pub rest_yeses: [[u64; 2]; 2],
-    /// Kind 20 by where the moment lies.
-    pub moments: Moments,
     /// Accepted root answers by need and count.
     pub counts: [[u64; 4]; 3],
     kinds: [OfKind; COUNT],
@@ -70,11 +67,7 @@ impl Coverage {
         trace::clear();
         let mut places = [b'-'; frame::LONGEST_REPLY];
         let answer = answer(request, &mut places);
-        let number = answer.err().unwrap_or(0);
-        self.refusals[number as usize] += 1;
-        if request.starts_with(format!("{MOMENT:02X}").as_bytes()) && matches!(number, 0 | 10) {
-            self.moments.add(request, number == 0);
-        }
+        self.refusals[answer.err().unwrap_or(0) as usize] += 1;
         let Ok(kind) = answer else {
             assert!(places.iter().all(|place| *place == b'-'));
             return;
@@ -159,8 +152,6 @@ impl Coverage {
         digits::read(&places[..kind.places], &mut reply);
         let numbers: Vec<f64> = if kind.replies_record() {
             frame::numbers::<45>(&reply, 4).to_vec()
-        } else if kind.inside.is_some() {
-            frame::numbers::<3>(&reply, 0).to_vec()
         } else {
             let halves = [frame::numbers::<7>(&reply, 1), frame::numbers::<7>(&reply, 58)];
             halves.concat()

@@ -3,7 +3,6 @@
 
 use crate::coverage::{Coverage, CAUSES};
 use crate::marks::ARGUMENTS;
-use crate::moments::{OUTSIDE, PLACES};
 use cases::attempt::{Attempt, Form, ATTEMPTS};
 use cases::kinds::{Asks, Kind, Shape, KINDS};
 use rsruckig::trace::{NO_CALL, NO_ROOT};
@@ -30,10 +29,8 @@ pub fn faults(coverage: &Coverage) -> Faults {
         faults.calls(coverage, kind);
     }
     faults.rests(coverage);
-    faults.moments(coverage);
     faults.quartics(coverage);
-    // The state at a moment of an accepted move is finite, but for moves near the largest f64.
-    for kind in KINDS.iter().filter(|kind| kind.inside.is_none()) {
+    for kind in &KINDS {
         faults.classes(coverage, kind);
     }
     faults
@@ -165,27 +162,6 @@ impl Faults {
         }
     }
 
-    fn moments(&mut self, coverage: &Coverage) {
-        let moments = &coverage.moments;
-        for (phase, row) in moments.places.iter().enumerate() {
-            for (place, count) in PLACES.iter().zip(row) {
-                self.hold(true, *count, format!("kind 20, {place} of phase {phase}"));
-            }
-        }
-        for (zero, row) in ["0", "-0"].iter().zip(moments.zeros) {
-            for (first, count) in ["some", "no"].iter().zip(row) {
-                self.hold(true, count, format!("kind 20, s {zero}, phase 0 of {first} time"));
-            }
-        }
-        for (phase, count) in moments.shared.iter().enumerate() {
-            let name = format!("kind 20, at the end of phase {phase}, the next adds no time");
-            self.hold(true, *count, name);
-        }
-        for (place, count) in OUTSIDE.iter().zip(moments.outside) {
-            self.hold(true, count, format!("kind 20, s {place}"));
-        }
-    }
-
     fn quartics(&mut self, coverage: &Coverage) {
         for (kind, shape) in KINDS.iter().filter_map(|kind| Some((kind, kind.quartics_of()?))) {
             let number = kind.number;
@@ -210,10 +186,10 @@ impl Faults {
     }
 
     fn classes(&mut self, coverage: &Coverage, kind: &Kind) {
-        let name = kind.name();
+        let number = kind.number;
         let counts = &coverage.of(kind).classes;
         for (class, count) in ["NaN", "infinity", "-0", "subnormal"].iter().zip(counts) {
-            self.hold(true, *count, format!("kind {name}, reply with {class}"));
+            self.hold(true, *count, format!("kind {number:02X}, reply with {class}"));
         }
     }
 }

@@ -4,15 +4,13 @@
 //!   generate SEED COUNT [checks | kind KK | arrivals]
 //!
 //! `checks` writes accepted lines of kind 00 only, and asks for its cases. `kind KK`
-//! writes accepted lines of one kind only, and with 2001 to 2005 of one kind inside kind 20.
-//! `arrivals` writes only lines of kinds 01 to 05 and 08 with a yes within the sizes of demand
-//! 3. The last two do not ask for complete coverage.
+//! writes accepted lines of one kind only. `arrivals` writes only lines of kinds 01 to 05 and
+//! 08 with a yes within the sizes of demand 3. The last two do not ask for complete coverage.
 
 mod arrivals;
 mod coverage;
 mod expected;
 mod marks;
-mod moments;
 mod table;
 
 use cases::any_line;
@@ -24,29 +22,18 @@ use expected::Faults;
 use std::io::{self, BufWriter, Write};
 use std::{env, process};
 
-/// How often each kind is asked. The shapes get the most lines, as they have the most cases.
-const OFTEN: [(&str, usize); 15] = [
-    ("00", 8),
-    ("01", 4),
-    ("02", 4),
-    ("03", 4),
-    ("04", 3),
-    ("05", 3),
-    ("06", 1),
-    ("07", 1),
-    ("11", 4),
-    ("12", 4),
-    ("13", 4),
-    ("14", 3),
-    ("15", 3),
-    ("08", 4),
-    ("20", 2),
+/// The shapes get the most lines, as they have the most cases.
+const OFTEN: [u8; 50] = [
+    0x00, 0x00, 0x00, 0x00, 0x00, 0x00, 0x00, 0x00, 0x01, 0x01, 0x01, 0x01, 0x02, 0x02, 0x02, 0x02,
+    0x03, 0x03, 0x03, 0x03, 0x04, 0x04, 0x04, 0x05, 0x05, 0x05, 0x06, 0x07, 0x11, 0x11, 0x11, 0x11,
+    0x12, 0x12, 0x12, 0x12, 0x13, 0x13, 0x13, 0x13, 0x14, 0x14, 0x14, 0x15, 0x15, 0x15, 0x08, 0x08,
+    0x08, 0x08,
 ];
 
 enum Wanted {
     All,
     Checks,
-    Kinds(Vec<&'static Kind>),
+    Kind(&'static Kind),
     Arrivals,
 }
 
@@ -57,8 +44,9 @@ fn main() -> io::Result<()> {
         [seed, count] => (seed, count, Wanted::All),
         [seed, count, "checks"] => (seed, count, Wanted::Checks),
         [seed, count, "kind", kind] => {
-            let kinds = Kind::named(kind).expect("KK is the number of a kind");
-            (seed, count, Wanted::Kinds(kinds))
+            let number = u8::from_str_radix(kind, 16).expect("KK is two hexadecimal digits");
+            let kind = Kind::numbered(number).expect("KK is the number of a kind");
+            (seed, count, Wanted::Kind(kind))
         }
         [seed, count, "arrivals"] => (seed, count, Wanted::Arrivals),
         _ => {
@@ -71,22 +59,18 @@ fn main() -> io::Result<()> {
 
     let shapes: Vec<_> = KINDS.iter().filter(|kind| matches!(kind.asks, Asks::Shape(_))).collect();
     let check = Kind::asking(Asks::Check);
-    let often: Vec<&Kind> = OFTEN.iter().flat_map(|(word, times)| of(word, *times)).collect();
     let mut out = BufWriter::with_capacity(1 << 20, io::stdout().lock());
     let mut coverage = Coverage::default();
     let mut line = Line::default();
     while coverage.lines < count {
-        match &wanted {
+        match wanted {
             Wanted::All => {
-                let kind = random.pick(&often);
+                let number = random.pick(&OFTEN);
+                let kind = Kind::numbered(number).expect("OFTEN has numbers of kinds");
                 any_line::sometimes_broken(&mut random, kind, 8, &mut line);
             }
             Wanted::Checks => any_line::accepted(&mut random, check, &mut line),
-            Wanted::Kinds(kinds) => {
-                // Nothing is drawn where there is one, so that a seed gives the lines it gave.
-                let kind = if let [kind] = kinds[..] { kind } else { random.pick(kinds) };
-                any_line::accepted(&mut random, kind, &mut line);
-            }
+            Wanted::Kind(kind) => any_line::accepted(&mut random, kind, &mut line),
             Wanted::Arrivals => loop {
                 let kind = random.pick(&shapes);
                 any_line::accepted(&mut random, kind, &mut line);
@@ -103,7 +87,7 @@ fn main() -> io::Result<()> {
     let (text, faults) = match wanted {
         Wanted::All => (table::text(&coverage), expected::faults(&coverage)),
         Wanted::Checks => (table::text_of_checks(&coverage), expected::faults_of_checks(&coverage)),
-        Wanted::Kinds(_) | Wanted::Arrivals => (table::text(&coverage), Faults::default()),
+        Wanted::Kind(_) | Wanted::Arrivals => (table::text(&coverage), Faults::default()),
     };
     eprint!("{text}");
     for fault in &faults.texts {
@@ -113,9 +97,4 @@ fn main() -> io::Result<()> {
         process::exit(1);
     }
     Ok(())
-}
-
-/// The kinds that a word names, each so many times.
-fn of(word: &str, times: usize) -> Vec<&'static Kind> {
-    Kind::named(word).expect("the number of a kind").repeat(times)
 }

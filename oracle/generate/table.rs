@@ -2,7 +2,6 @@
 
 use crate::coverage::{Coverage, TESTS};
 use crate::marks::{Marks, ARGUMENTS};
-use crate::moments::{OUTSIDE, PLACES};
 use cases::attempt::ATTEMPTS;
 use cases::kinds::{Asks, Kind, KINDS};
 use std::fmt::{Result, Write};
@@ -39,12 +38,11 @@ const TEST_NAMES: [&str; TESTS] = [
 pub fn text(coverage: &Coverage) -> String {
     written(|text| {
         writeln!(text, "lines {}", coverage.lines)?;
-        writeln!(text, "replies, then refusals 1 to 10 {:?}", coverage.refusals)?;
+        writeln!(text, "replies, then refusals 1 to 8 {:?}", coverage.refusals)?;
         checks(coverage, text)?;
         attempts(coverage, text)?;
         marks(coverage, text)?;
         rests(coverage, text)?;
-        moments(coverage, text)?;
         records(coverage, &KINDS, text)?;
         quartics(coverage, text)?;
         classes(coverage, &KINDS, text)
@@ -102,7 +100,7 @@ fn attempts(coverage: &Coverage, text: &mut String) -> Result {
         writeln!(text, "  {kind:02X} {:?} {causes:?} {directions:?}", attempt.form)?;
     }
     writeln!(text, "lines by how many calls of check, 0 to 8")?;
-    for kind in KINDS.iter().filter(|kind| kind.replies_record() && kind.shape().is_some()) {
+    for kind in KINDS.iter().filter(|kind| kind.shape().is_some()) {
         writeln!(text, "  {:02X} {:?}", kind.number, coverage.of(kind).calls)?;
     }
     writeln!(text, "lines by the cause of the last call of check, 0 to 13")?;
@@ -136,19 +134,6 @@ fn rests(coverage: &Coverage, text: &mut String) -> Result {
         writeln!(text, "  velocities {velocities} {jerks:?}")?;
     }
     Ok(())
-}
-
-fn moments(coverage: &Coverage, text: &mut String) -> Result {
-    let moments = &coverage.moments;
-    writeln!(text, "kind 20: phase; replies {} of it", PLACES.join(", "))?;
-    for (phase, row) in moments.places.iter().enumerate() {
-        writeln!(text, "  {phase} {row:?}")?;
-    }
-    let zeros = moments.zeros;
-    writeln!(text, "kind 20 at 0, at -0, where phase 0 has some time, or none {zeros:?}")?;
-    let shared = moments.shared;
-    writeln!(text, "kind 20 at an end that the next phase has too, by phase {shared:?}")?;
-    writeln!(text, "kind 20 refused, s {} {:?}", OUTSIDE.join(", "), moments.outside)
 }
 
 fn records(coverage: &Coverage, kinds: &[Kind], text: &mut String) -> Result {
@@ -186,7 +171,7 @@ fn quartics(coverage: &Coverage, text: &mut String) -> Result {
 fn classes(coverage: &Coverage, kinds: &[Kind], text: &mut String) -> Result {
     writeln!(text, "replies that hold NaN, infinity, -0, a subnormal")?;
     for kind in kinds {
-        writeln!(text, "  {} {:?}", kind.name(), coverage.of(kind).classes)?;
+        writeln!(text, "  {:02X} {:?}", kind.number, coverage.of(kind).classes)?;
     }
     Ok(())
 }

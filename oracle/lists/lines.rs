@@ -5,7 +5,6 @@ use crate::Lists;
 use cases::attempt::at_rest;
 use cases::kinds::{Asks, Kind, Shape, KINDS};
 use cases::line::Line;
-use cases::moment_line;
 use cases::random::Random;
 use cases::{any_line, broken_line};
 use oracle::{digits, frame};
@@ -32,11 +31,6 @@ pub fn causes(random: &mut Random, line: &mut Line) {
 
 pub fn rest_to_rest(random: &mut Random, line: &mut Line) {
     of_kind(0x08, random, line);
-}
-
-pub fn moment(random: &mut Random, line: &mut Line) {
-    let kind = random.pick(&Kind::named("20").expect("the number of a kind"));
-    any_line::accepted(random, kind, line);
 }
 
 /// Faulty lines, though some of the faults are none: a time may be NaN.
@@ -103,9 +97,6 @@ fn answer(request: &[u8]) -> Answered {
         }
     };
     let reply = places[..kind.places].to_vec();
-    if let Some(inside) = kind.inside {
-        return Answered { group: vec![0, kind.number, inside], case: moment_case(request), reply };
-    }
     if !kind.replies_record() {
         // By the two needs.
         let case = vec![reply[1], reply[kind.places / 2 + 1]];
@@ -131,19 +122,6 @@ fn answer(request: &[u8]) -> Answered {
         }
     }
     Answered { group: vec![0, kind.number, reply[1]], case, reply }
-}
-
-/// By the phase that answers, whether the moment is its end, and whether the next one ends there
-/// too; and by whether it is 0, or -0.
-fn moment_case(request: &[u8]) -> Vec<u8> {
-    let (inside, moment) = request[2..].split_at(request.len() - 18);
-    let mut bytes = [0; 8];
-    digits::read(moment, &mut bytes);
-    let s = f64::from_bits(u64::from_be_bytes(bytes));
-    let ends = moment_line::ends(inside).expect("the frame inside gets a yes");
-    let phase = ends.iter().filter(|end| **end < s).count();
-    let at_end = ends[phase..].iter().filter(|end| **end == s).count();
-    vec![phase as u8, at_end as u8, (s == 0.0) as u8, s.is_sign_negative() as u8]
 }
 
 /// Which calls are marked for want of a square root, and whether the last is by a NaN.

@@ -4,7 +4,7 @@
 //!   lists KIND SEED COUNT INPUT OUTPUT
 //!
 //! KIND is one of sqrt, cmath, roots, integrate, halving, profile, kind00, shapes, causes, rest,
-//! moments, broken. `cmath` takes its cases from CPython's published test vectors and ignores SEED
+//! broken. `cmath` takes its cases from CPython's published test vectors and ignores SEED
 //! and COUNT.
 
 mod cmath;
@@ -74,7 +74,6 @@ fn main() {
         "shapes" => lines::fill(&mut lists, &mut random, count, lines::shape),
         "causes" => lines::fill(&mut lists, &mut random, count, lines::causes),
         "rest" => lines::fill(&mut lists, &mut random, count, lines::rest_to_rest),
-        "moments" => lines::fill(&mut lists, &mut random, count, lines::moment),
         "broken" => lines::fill(&mut lists, &mut random, count, lines::broken),
         _ => {
             eprintln!("lists: no list is called {kind}");

@@ -2,7 +2,7 @@
 //! taken out of the shapes give bit for bit what the shapes' own calls receive;
 //! and what those calls ask for is what the needs say, with the same arguments.
 
-use crate::{causes, moments, rest_to_rest};
+use crate::{causes, rest_to_rest};
 use cases::any_line::sometimes_broken;
 use cases::kinds::{Kind, Shape};
 use cases::line::Line;
@@ -15,19 +15,14 @@ use rsruckig::{hand_in, trace};
 const NUMBERS: [u8; 18] =
     [0, 1, 2, 2, 3, 3, 4, 5, 6, 7, 8, 0x11, 0x12, 0x12, 0x13, 0x13, 0x14, 0x15];
 
-/// Kind 20 once in so many lines.
-const MOMENTS: u64 = 16;
-
 /// How many quartics were compared, how many lines had their causes tried, how many of those
-/// have the cause of a root that does not exist, how many of kind 08 are at rest, and how many
-/// of kind 20 have a reply.
+/// have the cause of a root that does not exist, and how many of kind 08 are at rest.
 #[derive(Default)]
 pub struct Tried {
     pub quartics: usize,
     pub causes: usize,
     pub marked: usize,
     pub rests: usize,
-    pub moments: usize,
 }
 
 pub fn test(seed: u64, count: u64) -> Tried {
@@ -35,11 +30,8 @@ pub fn test(seed: u64, count: u64) -> Tried {
     let mut line = Line::default();
     let mut tried = Tried::default();
     for _ in 0..count {
-        let kind = if random.once_in(MOMENTS) {
-            random.pick(&moments::kinds())
-        } else {
-            Kind::numbered(random.pick(&NUMBERS)).expect("the number of a kind")
-        };
+        let number = random.pick(&NUMBERS);
+        let kind = Kind::numbered(number).expect("the number of a kind");
         sometimes_broken(&mut random, kind, 16, &mut line);
         let request = &line.characters;
 
@@ -48,13 +40,8 @@ pub fn test(seed: u64, count: u64) -> Tried {
         let answer = answer(request, &mut traced);
         assert_eq!(answer.err().unwrap_or(0), plain::answer_line(request, &mut untraced));
         assert_eq!(traced, untraced);
-        let with_quartics = |kind: &&Kind| kind.has_answers() && kind.inside.is_none();
-        if let Some(shape) = answer.ok().filter(with_quartics).and_then(Kind::shape) {
+        if let Some(shape) = answer.ok().filter(|kind| kind.has_answers()).and_then(Kind::shape) {
             tried.quartics += compare_quartics(shape, request);
-        }
-        if request.starts_with(b"20") {
-            let number = answer.err().unwrap_or(0);
-            tried.moments += moments::test(request, number, &traced) as usize;
         }
         if request.starts_with(b"08") {
             tried.rests += rest_to_rest::test(request, &traced) as usize;

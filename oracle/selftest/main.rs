@@ -7,7 +7,6 @@
 mod causes;
 mod edits;
 mod marks;
-mod moments;
 mod moves;
 mod rest_to_rest;
 
@@ -22,17 +21,9 @@ fn main() {
     let moves = moves::test();
     println!("{moves} moves of documents 01 and 02 hold");
     println!("{} moves with and without a root hold", marks::worked());
-    let edits::Tried { quartics, causes, marked, rests, moments } = edits::test(seed, count);
+    let edits::Tried { quartics, causes, marked, rests } = edits::test(seed, count);
     println!("{count} lines answered alike, {quartics} quartics as taken out of the source");
     println!("{causes} lines of kinds 11 to 15 as those of 01 to 05, their causes found again,");
     println!("{marked} of them for want of a root");
     println!("{rests} lines of kind 08 at rest, with the document's t[1] and else as kind 04");
-    println!("{moments} moments of kind 20 with the state worked out from the line inside");
-}
-
-/// Digits as in a reply, every NaN the same.
-fn written(number: f64) -> String {
-    let bits = number.to_bits();
-    let is_nan = bits << 1 > f64::INFINITY.to_bits() << 1;
-    format!("{:016X}", if is_nan { 0x7FF8_0000_0000_0000 } else { bits })
 }

@@ -3,7 +3,7 @@
 #[cfg(traced)]
 use crate::causes;
 use crate::kinds::{Asks, Kind};
-use crate::{check, digits, frame, moments, quartics, shapes};
+use crate::{check, digits, frame, quartics, shapes};
 #[cfg(not(traced))]
 use traced::causes;
 
@@ -24,7 +24,7 @@ pub fn answer(request: &[u8], reply: &mut [u8]) -> Result<&'static Kind, u32> {
     if !digits::read(request, &mut bytes[..length]) {
         return Err(2);
     }
-    let kind = Kind::of(&bytes[..length])?;
+    let kind = Kind::numbered(bytes[0]).ok_or(3u32)?;
     if length != kind.bytes {
         return Err(4);
     }
@@ -33,7 +33,6 @@ pub fn answer(request: &[u8], reply: &mut [u8]) -> Result<&'static Kind, u32> {
         Asks::Shape(shape) => shapes::answer(shape, &bytes, reply),
         Asks::Quartics(shape) => quartics::answer(shape, &bytes, reply),
         Asks::Causes(_) => causes::answer(&bytes, reply),
-        Asks::Moment(shape) => moments::answer(shape, &bytes, length, reply),
     };
     if number == 0 {
         Ok(kind)

@@ -1,30 +1,25 @@
 //! Where the parts of a frame stand, in bytes.
 
-/// The longest frame: a frame with root answers inside one of kind 20.
-pub const LONGEST: usize = 156;
+/// The longest frame, that of `check`.
+pub const LONGEST: usize = 148;
 
 /// Where kind 00's seven times and the eleven numbers after them begin.
 pub const CHECK_TIMES: usize = 4;
 pub const CHECK_NUMBERS: usize = CHECK_TIMES + 7 * 8;
 
-/// Where the twelve numbers of all other kinds begin; in kind 20 they are those of the frame
-/// inside, counted from its own kind.
+/// Where the twelve numbers of all other kinds begin.
 pub const NUMBERS: usize = 1;
-
-/// Where the frame inside a frame of kind 20 begins; the moment is what follows it.
-pub const INSIDE: usize = 1;
 
 /// Where the two root answers begin, and how long one is: a count and three
 /// numbers.
 pub const ANSWERS: usize = NUMBERS + 12 * 8;
 pub const ANSWER_LENGTH: usize = 1 + 3 * 8;
 
-/// A record's reply, that with the calls of `check` after it, the quartics' reply, and that of
-/// a moment, in places.
+/// A record's reply, that with the calls of `check` after it, and the quartics' reply, in
+/// places.
 pub const RECORD_PLACES: usize = 728;
 pub const CAUSES_PLACES: usize = RECORD_PLACES + 4;
 pub const QUARTICS_PLACES: usize = 228;
-pub const STATE_PLACES: usize = 48;
 
 pub const LONGEST_REPLY: usize = CAUSES_PLACES;
 

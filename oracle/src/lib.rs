@@ -12,7 +12,6 @@ pub mod check;
 pub mod digits;
 pub mod frame;
 pub mod kinds;
-pub mod moments;
 pub mod quartics;
 pub mod reply;
 pub mod shapes;

@@ -62,15 +62,15 @@ module _ (line : List ℕ) (at : ℕ) where
         let k : i < length characters = omega (arith, sixteen) in
         rw (add-one, drop-cons characters i 0) (rw (get_or-take, get_or-drop))
 
-    small-next : {v : ℕ} → word < 16 ^ i → v < 16 → 16 * word + v < 16 ^ (i + 1)
-    small-next h k = rw (add-one, pow-succ') (omega arith)
+    small_next : {v : ℕ} → word < 16 ^ i → v < 16 → 16 * word + v < 16 ^ (i + 1)
+    small_next h k = rw (add-one, pow-succ') (omega arith)
 
     pub next : i < 16 → (v : ℕ) (o : Bool) → o ≡ is_digit_of c → v ≡ value_of c → Read_to (ok && o) (16 * word + v) (i + 1)
     next h v o eo ev =
         record {
           inside = r.inside;
           count = omega arith;
-          small = small-next r.small (rw ev (value_lt c));
+          small = small_next r.small (rw ev (value_lt c));
           bits = rw ev (ap (value_after word) (sym (split h)) ∙ r.bits);
           digits =
               rw eo

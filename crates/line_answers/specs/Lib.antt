@@ -1,7 +1,4 @@
 pub mod CheckLine
 pub mod ShapeLine
 pub mod QuarticLine
-pub mod MomentLine
-pub mod Asked
 pub mod FrameAnswer
-pub mod Wanted

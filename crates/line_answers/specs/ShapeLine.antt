@@ -1,14 +1,28 @@
--- Kinds 01 to 05 and 08, 11 to 15, and the frame inside kind 20: what a shape answers to a frame. Definitions only.
+-- Kinds 01 to 05 and 08, and 11 to 15 with count and cause: what a shape answers to a frame. Definitions only.
+use Rattle.std.specs.Prelude.{Bool, cond, List, ℕ}
+use Rattle.hex_bytes.specs.Hex.{Filled}
 use Rattle.profile.specs.declared.Checked.{Checked}
 use Rattle.step2_solver.specs.declared.Shape.{Shape}
 use Rattle.step2_solver.specs.New.{solver_of, limits_of}
 use Rattle.position_third_step2.specs.Shape.{shape_of, fresh}
+use Rattle.line_kinds.specs.Kinds.{record_places, causes_places}
 use Rattle.line_frame.specs.Frame.{Frame}
 use Rattle.line_frame.specs.Numbers.{move_of, first_answer_of, second_answer_of}
 use Rattle.line_questions.specs.Questions.{quartics_at}
+use Rattle.line_reply.specs.Reply.{reply_bytes_of, causes_bytes_of, written_of}
 
 -- the shape is passed the same limits as `new`
 unfoldable pub shape_line_of : Shape → Frame → Checked
 shape_line_of shape at =
     let x = move_of at in
     shape_of shape (solver_of x) (limits_of x) (quartics_at shape at) (first_answer_of at) (second_answer_of at) (fresh x)
+
+-- the reply of what a shape left, with count and cause or without: its bytes, its places, and it in the lent ones
+abbrev pub shape_bytes : Bool → Checked → List ℕ
+shape_bytes causes c = cond causes (causes_bytes_of c) (reply_bytes_of c)
+
+abbrev pub shape_places : Bool → ℕ
+shape_places causes = cond causes causes_places record_places
+
+abbrev pub shape_written : Bool → Checked → List ℕ → Filled
+shape_written causes c lent = written_of (shape_places causes) (shape_bytes causes c) lent

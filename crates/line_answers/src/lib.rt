@@ -8,7 +8,7 @@ ghost use Rattle.line_answers.specs.FrameAnswer.{Answer, frame_answer_of};
 
 use check_line::check_line;
 use line_kinds::{Asks, FRAME};
-use shape_line::{Wants, moment_line, shape_line};
+use shape_line::shape_line;
 
 pub fn reply_to(asks: Asks, frame: &[u8; FRAME], reply: &mut [u8]) -> u32
     ensures { record { number = result; places = reply.new }
@@ -17,9 +17,8 @@ pub fn reply_to(asks: Asks, frame: &[u8; FRAME], reply: &mut [u8]) -> u32
     match asks {
         Asks::NoKind => 0,
         Asks::OfCheck => check_line(frame, reply),
-        Asks::OfShape(shape) => shape_line(false, Wants::Record, shape, frame, reply),
-        Asks::OfQuartics(shape) => shape_line(true, Wants::Record, shape, frame, reply),
-        Asks::OfCauses(shape) => shape_line(false, Wants::Causes, shape, frame, reply),
-        Asks::OfMoment(shape) => moment_line(shape, frame, reply),
+        Asks::OfShape(shape) => shape_line(false, false, shape, frame, reply),
+        Asks::OfQuartics(shape) => shape_line(true, false, shape, frame, reply),
+        Asks::OfCauses(shape) => shape_line(false, true, shape, frame, reply),
     }
 }

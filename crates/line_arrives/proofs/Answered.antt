@@ -21,11 +21,10 @@ use Rattle.line_kinds.specs.declared.Asks.TheVariants.{OfShape, OfCauses}
 use Rattle.line_frame.specs.Frame.{Frame, byte_at, word_at, number_at}
 use Rattle.line_frame.specs.Numbers.{move_of, move_finite, root_answer_of, first_answer_of, second_answer_of}
 use Rattle.line_frame.proofs.Numbers.{each_finite}
-use Rattle.line_questions.specs.Questions.{Question, ask, places_fit, AllYes}
+use Rattle.line_questions.specs.Questions.{Question, ask, places_fit, shape_questions, questions_of, AllYes}
 use Rattle.labels.specs.Causes.{cause_number_of}
 use Rattle.line_reply.specs.Reply.{reply_bytes_of, causes_bytes_of}
 use Rattle.line_answers.specs.ShapeLine.{shape_line_of}
-use Rattle.line_answers.specs.Asked.{shape_questions, questions_of}
 use Rattle.line_answers.specs.FrameAnswer.{reply_of, replied_of}
 use Rattle.lines.specs.Answer.{answer_of}
 use Rattle.line_places.specs.Exactly.{row_for, reply_to_of}
@@ -77,7 +76,7 @@ shaped shape line =
     let at = byte_at (bytes_of line) in
     asked shape (first_answer_of at) (second_answer_of at) (move_in line) (fresh (move_in line))
 
-pub shaped_is : (shape : Shape) (line : List ℕ) → shape_line_of shape (byte_at (bytes_of line)) ≡ shaped shape line
+shaped_is : (shape : Shape) (line : List ℕ) → shape_line_of shape (byte_at (bytes_of line)) ≡ shaped shape line
 unfolding shape_line_of
 shaped_is shape line = refl
 

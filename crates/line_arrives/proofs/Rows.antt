@@ -1,5 +1,5 @@
 -- Assumes nothing. The numbers of a reply, read back from its bytes:
--- the times from byte 4 on, their sums from byte 60 on, the jerks from byte 116 on, and the verdict in byte 0.
+-- the times from byte 4 on, the jerks from byte 116 on, and the verdict in byte 0.
 use mathlib.Core.Path.{◌≡◌, refl, sym, ap, ◌∙◌, subst}
 use mathlib.Core.Bool.{Bool, true, false, cond}
 use mathlib.Core.List.{List, [], ◌∷◌, ◌++◌, append_assoc}
@@ -39,9 +39,9 @@ module _ (before : List ℕ) (a b c d e f g h : ℕ) (after : List ℕ) where
         get_or-append-add before l 7 0,
       )
 
-number-among : (before : List ℕ) (x : Float) (after : List ℕ) → T (fits binary64 x)
+number_among : (before : List ℕ) (x : Float) (after : List ℕ) → T (fits binary64 x)
     → number_at (byte_at (before ++ (number_bytes_of x ++ after))) (length before) ≡ x
-number-among before x after h = ap (of_bits binary64) (word_among before _ _ _ _ _ _ _ _ after) ∙ number-back x h
+number_among before x after h = ap (of_bits binary64) (word_among before _ _ _ _ _ _ _ _ after) ∙ number-back x h
 
 -- ---- a number of a row
 next_place : (n i : ℕ) → n + 8 + 8 * i ≡ n + 8 * suc i
@@ -58,7 +58,7 @@ row_back before n e (x ∷ xs) after zero l f =
     subst (λ (k : ℕ). number_at (byte_at (before ++ (number_bytes_of x ++ numbers_bytes xs ++ after))) k ≡ x)
     (e ∙ first-place n)
     (subst (λ (r : List ℕ). number_at (byte_at (before ++ r)) (length before) ≡ x)
-    (sym (append_assoc (number_bytes_of x) (numbers_bytes xs) after)) (number-among before x (numbers_bytes xs ++ after) f))
+    (sym (append_assoc (number_bytes_of x) (numbers_bytes xs) after)) (number_among before x (numbers_bytes xs ++ after) f))
 row_back before n e (x ∷ xs) after (suc i) l f =
     subst (λ (k : ℕ). number_at (byte_at (before ++ (number_bytes_of x ++ numbers_bytes xs ++ after))) k ≡ get_or xs i nan)
     (next_place n i)
@@ -73,12 +73,9 @@ row_back before n e (x ∷ xs) after (suc i) l f =
 
 -- ---- the reply
 module _ (h t s j a v p rest : List ℕ) where
-  -- six rows after a head, seen from the first, the second and the third
+  -- six rows after a head, seen from the first and from the third
   from_first : h ++ (t ++ s ++ j ++ a ++ v ++ p) ++ rest ≡ h ++ (t ++ (s ++ j ++ a ++ v ++ p ++ rest))
   from_first = simp (append_assoc)
-
-  from_second : h ++ (t ++ s ++ j ++ a ++ v ++ p) ++ rest ≡ h ++ t ++ (s ++ (j ++ a ++ v ++ p ++ rest))
-  from_second = simp (append_assoc)
 
   from-third : h ++ (t ++ s ++ j ++ a ++ v ++ p) ++ rest ≡ h ++ t ++ s ++ (j ++ (a ++ v ++ p ++ rest))
   from-third = simp (append_assoc)
@@ -98,21 +95,11 @@ module _ (h : List ℕ) (t s j a v p : List Float) (rest : List ℕ) (four : len
       (row_back h 4 four t
       (numbers_bytes s ++ numbers_bytes j ++ numbers_bytes a ++ numbers_bytes v ++ numbers_bytes p ++ rest) i l f)
 
-  before_second : length t ≡ 7 → length (h ++ numbers_bytes t) ≡ 60
-  before_second e = length-append h (numbers_bytes t) ∙ rw (four, length-numbers t, e)
-
-  second_row : length t ≡ 7 → (i : ℕ) → i < length s → T (fits binary64 (get_or s i nan))
-      → number_at (byte_at all) (60 + 8 * i) ≡ get_or s i nan
-  second_row e i l f =
-      subst (λ (r : List ℕ). number_at (byte_at r) (60 + 8 * i) ≡ get_or s i nan)
-      (sym (from_second h (numbers_bytes t) (numbers_bytes s) (numbers_bytes j) (numbers_bytes a) (numbers_bytes v)
-      (numbers_bytes p) rest))
-      (row_back (h ++ numbers_bytes t) 60 (before_second e) s
-      (numbers_bytes j ++ numbers_bytes a ++ numbers_bytes v ++ numbers_bytes p ++ rest) i l f)
-
-  before-third : length t ≡ 7 → length s ≡ 7 → length (h ++ numbers_bytes t ++ numbers_bytes s) ≡ 116
-  before-third e g =
-      length-append (h ++ numbers_bytes t) (numbers_bytes s) ∙ rw (before_second e, length-numbers s, g)
+  before_third : length t ≡ 7 → length s ≡ 7 → length (h ++ numbers_bytes t ++ numbers_bytes s) ≡ 116
+  before_third e g =
+      length-append (h ++ numbers_bytes t) (numbers_bytes s)
+      ∙ ap (λ (k : ℕ). k + length (numbers_bytes s)) (length-append h (numbers_bytes t))
+      ∙ rw (four, length-numbers t, length-numbers s, e, g)
 
   third-row : length t ≡ 7 → length s ≡ 7 → (i : ℕ) → i < length j → T (fits binary64 (get_or j i nan))
       → number_at (byte_at all) (116 + 8 * i) ≡ get_or j i nan
@@ -120,7 +107,7 @@ module _ (h : List ℕ) (t s j a v p : List Float) (rest : List ℕ) (four : len
       subst (λ (r : List ℕ). number_at (byte_at r) (116 + 8 * i) ≡ get_or j i nan)
       (sym (from-third h (numbers_bytes t) (numbers_bytes s) (numbers_bytes j) (numbers_bytes a) (numbers_bytes v)
       (numbers_bytes p) rest))
-      (row_back (h ++ numbers_bytes t ++ numbers_bytes s) 116 (before-third e g) j
+      (row_back (h ++ numbers_bytes t ++ numbers_bytes s) 116 (before_third e g) j
       (numbers_bytes a ++ numbers_bytes v ++ numbers_bytes p ++ rest) i l f)
 
 module _ (c : Checked) (rest : List ℕ) where
@@ -141,13 +128,6 @@ module _ (c : Checked) (rest : List ℕ) where
   time-back i l f =
       first-row (head_of (record { ok = c.ok; labels = labels_of q })) q.t q.t_sum q.j q.a q.v q.p
       rest refl i l f
-
-  pub sum_back : length q.t ≡ 7 → (i : ℕ) → i < length q.t_sum → T (fits binary64 (get_or q.t_sum i nan))
-      → number_at (byte_at (reply_bytes_of c ++ rest)) (60 + 8 * i) ≡ get_or q.t_sum i nan
-  unfolding reply_bytes_of head_of rows_of
-  sum_back e i l f =
-      second_row (head_of (record { ok = c.ok; labels = labels_of q })) q.t q.t_sum q.j q.a q.v q.p
-      rest refl e i l f
 
   pub jerk-back : length q.t ≡ 7 → length q.t_sum ≡ 7 → (i : ℕ) → i < length q.j
       → T (fits binary64 (get_or q.j i nan))

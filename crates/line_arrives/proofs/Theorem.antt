@@ -39,30 +39,30 @@ module _ {m : Move} {q : Profile} (d : Made m q) where
 
 module _ (line lent : List ℕ) (none : (answer_of line lent).number ≡ 0) (k : AsksShape line)
     (says : SaysYes (answer_of line lent).places) where
-  abbrev pub reply : List ℕ
+  abbrev reply : List ℕ
   reply = (answer_of line lent).places
 
   -- the record that the shape left, and the bytes after its own
-  abbrev pub q : Profile
+  abbrev q : Profile
   q = (shaped k.shape line).profile
 
-  abbrev pub beyond : List ℕ
+  abbrev beyond : List ℕ
   beyond = rest line lent none k
 
-  pub read : bytes_of reply ≡ reply_bytes_of (shaped k.shape line) ++ beyond
+  read : bytes_of reply ≡ reply_bytes_of (shaped k.shape line) ++ beyond
   read = bytes_are line lent none k
 
   accepted : (shaped k.shape line).ok ≡ true
   accepted = verdict_back (shaped k.shape line) beyond (subst (λ (b : List ℕ). byte_at b 0 ≡ 1) read says)
 
-  pub made : Made (move_in line) q
+  made : Made (move_in line) q
   made =
       let at = byte_at (bytes_of line) in
       let n = numbers_are line lent none k in
       shape_made k.shape (first_answer_of at) (second_answer_of at) (answer-fits at 97) (answer-fits at 122) n
       (fresh (move_in line)) (fresh-starts n) accepted
 
-  pub lengths : Lengths q
+  lengths : Lengths q
   lengths =
       let at = byte_at (bytes_of line) in
       let m = move_in line in
@@ -70,13 +70,13 @@ module _ (line lent : List ℕ) (none : (answer_of line lent).number ≡ 0) (k :
       (fresh m) (fresh_lengths m.p0 m.v0 m.a0 m.pf m.vf m.af)
       ).lengths
 
-  pub times_agree : Agree 7 (time q) (time_in reply)
+  times_agree : Agree 7 (time q) (time_in reply)
   times_agree i l =
       sym (ap (λ (b : List ℕ). number_at (byte_at b) (4 + 8 * i)) read
       ∙ time-back (shaped k.shape line) beyond i (subst (λ (n : ℕ). i < n) (sym lengths.seven_t) l)
       ((made_starts made).held.held_t i l))
 
-  pub jerks_agree : Agree 7 (jerk q) (jerk_in reply)
+  jerks_agree : Agree 7 (jerk q) (jerk_in reply)
   jerks_agree i l =
       sym (ap (λ (b : List ℕ). number_at (byte_at b) (116 + 8 * i)) read
       ∙ jerk-back (shaped k.shape line) beyond lengths.seven_t lengths.seven_t_sum i
@@ -87,7 +87,7 @@ module _ (line lent : List ℕ) (none : (answer_of line lent).number ≡ 0) (k :
   carried = line-arrives line reply (made_starts made) times_agree jerks_agree (numbers_are line lent none k)
       (all_finite_lem made)
 
-  pub sized : Sizes line reply → Within q
+  sized : Sizes line reply → Within q
   sized = within line reply (made_starts made) times_agree jerks_agree
 
 -- demand 3

@@ -14,7 +14,8 @@ use Rattle.step2_arrives.specs.Moves.{MoveNumbers, Close, in_time}
 use Rattle.step2_times.specs.Facts.{roundings, residual}
 use Rattle.hex_bytes.specs.Hex.{bytes_of}
 use Rattle.line_kinds.specs.declared.Asks.TheVariants.{OfShape, OfCauses}
-use Rattle.line_frame.specs.Frame.{byte_at, number_at, row_at}
+use Rattle.line_kinds.specs.Kinds.{row_of}
+use Rattle.line_frame.specs.Frame.{byte_at, number_at}
 use Rattle.line_frame.specs.Numbers.{move_of}
 
 -- byte i that characters stand for, two a byte; and the f64 whose bits are the eight bytes from byte i on
@@ -29,7 +30,7 @@ number_in characters i = number_at (byte_at (bytes_of characters)) i
 pub record AsksShape (line : List ℕ) : Type 0 where
   pub shape : Shape
   pub causes : Bool
-  pub asked : (row_at (byte_in line)).asks ≡ cond causes (OfCauses shape) (OfShape shape)
+  pub asked : (row_of (byte_in line 0)).asks ≡ cond causes (OfCauses shape) (OfShape shape)
 
 abbrev pub move_in : List ℕ → Move
 move_in line = move_of (byte_at (bytes_of line))

@@ -130,13 +130,13 @@ module _ {S : Type 0} (way : Answering S) where
 
   record Ran (p : Progress S) (output : List ℕ) (s : S) (kept : List ℕ) : Type 0 where
     kept_is : p.kept ≡ kept
-    state_is : p.state ≡ s
+    state-is : p.state ≡ s
     written_is : p.written ≡ output
 
   ran : {s s' : S} {kept input output kept' : List ℕ} → Calls way s kept input output s' kept'
       → Ran (block_of way s kept input) output s' kept'
   unfolding block_from
-  ran none = record { kept_is = refl; state_is = refl; written_is = refl }
+  ran none = record { kept_is = refl; state-is = refl; written_is = refl }
   ran (call {s} {s'} {kept} {input} {output} {kept'} room block calls) =
       let t : Progress S = stream_of way room s kept block in
       let c = ran calls in
@@ -146,7 +146,7 @@ module _ {S : Type 0} (way : Answering S) where
       (sym (called room s kept block)) in
       record {
         kept_is = ap (λ (x : Progress S). x.kept) r ∙ c.kept_is;
-        state_is = ap (λ (x : Progress S). x.state) r ∙ c.state_is;
+        state-is = ap (λ (x : Progress S). x.state) r ∙ c.state-is;
         written_is =
             ap (λ (x : Progress S). x.written) r ∙ ap (λ (l : List ℕ). t.written ++ l) c.written_is;
       }
@@ -155,4 +155,4 @@ module _ {S : Type 0} (way : Answering S) where
       → behind output (last_of way s' kept) ≡ whole_of way s input
   whole holds {s} {s'} {input} {output} {kept} calls =
       let c = ran calls in
-      rw (← c.kept_is, ← c.state_is, ← c.written_is) (all holds.kept_same 0 [] s [] input)
+      rw (← c.kept_is, ← c.state-is, ← c.written_is) (all holds.kept_same 0 [] s [] input)

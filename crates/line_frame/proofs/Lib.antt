@@ -1,4 +1,3 @@
--- Laws of the numbers of a frame, and of a frame inside another.
+-- Laws of the numbers of a frame.
 pub mod Numbers
 pub mod Finite
-pub mod Shifted

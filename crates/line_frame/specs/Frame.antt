@@ -4,8 +4,6 @@ use Rattle.std.specs.Float.{binary64}
 use Rattle.std.specs.Float.Ieee.{of_bits}
 use Rattle.std.specs.Float.Ieee.Scale.{finite}
 use Rattle.number_bytes.specs.Bytes.{word_of}
-use Rattle.line_kinds.specs.declared.Row.{Row}
-use Rattle.line_kinds.specs.Kinds.{row_of}
 
 -- byte i of a frame; 0 past its end
 abbrev pub byte_at : List ℕ → ℕ → ℕ
@@ -14,14 +12,6 @@ byte_at bytes i = get_or bytes i 0
 -- A frame is given by what stands at each place, as `byte_at bytes`.
 abbrev pub Frame : Type 0
 Frame = ℕ → ℕ
-
--- its row in the table of kinds, by the kind and the kind inside
-abbrev pub row_at : Frame → Row
-row_at at = row_of (at 0) (at 1)
-
--- the frame inside a frame of kind 20: what stands after its own kind, the moment too
-abbrev pub inside_of : Frame → Frame
-inside_of at i = at (i + 1)
 
 -- the word in the eight bytes from place i on, and the f64 with these bits
 unfoldable pub word_at : Frame → ℕ → ℕ

@@ -1,5 +1,5 @@
 -- The numbers of a frame by their names, and its root answers. Definitions only.
-use Rattle.std.specs.Prelude.{Bool, true, false, cond, [], ◌∷◌, ℕ, ◌+◌, eqb, Float}
+use Rattle.std.specs.Prelude.{Bool, true, false, cond, [], ◌∷◌, ℕ, ◌+◌, eqb}
 use Rattle.float.specs.Ops.{#0}
 use Rattle.roots.specs.declared.RootAnswer.{RootAnswer}
 use Rattle.roots.specs.declared.RootAnswer.TheVariants.{CubeRoot, Resolved}
@@ -7,8 +7,6 @@ use Rattle.line_frame.specs.declared.CheckNumbers.{CheckNumbers}
 use Rattle.line_frame.specs.declared.FiniteCheck.{FiniteCheck}
 use Rattle.line_frame.specs.declared.FiniteMove.{FiniteMove}
 use Rattle.step2_solver.specs.declared.Move.{Move}
-use Rattle.step2_solver.specs.declared.Shape.{Shape}
-use Rattle.line_kinds.specs.Kinds.{takes_roots_of}
 use Rattle.line_frame.specs.Frame.{Frame, number_at, numbers_at, all_finite_of}
 
 -- Kind 00, after kind, signs, label and set_limits: seven times; p0 v0 a0 pf vf af; jf v_max v_min a_max a_min.
@@ -108,7 +106,3 @@ first_answer_of at = root_answer_of at 97
 
 abbrev pub second_answer_of : Frame → RootAnswer
 second_answer_of at = root_answer_of at 122
-
--- Kind 20: the moment s stands after the frame inside, which asks the shape: after its numbers, or its root answers.
-abbrev pub moment_of : Shape → Frame → Float
-moment_of shape at = number_at at (cond (takes_roots_of shape) 147 97)

@@ -3,15 +3,15 @@ mod reading;
 
 ghost use Rattle.std.specs.Prelude.{◌≡◌, true, ◌+◌, ◌≤◌};
 ghost use Rattle.line_kinds.specs.Kinds.{frame_most};
-ghost use Rattle.line_frame.specs.Frame.{byte_at, inside_of};
+ghost use Rattle.line_frame.specs.Frame.{byte_at};
 ghost use Rattle.line_frame.specs.Numbers.{check_numbers_of, zero_check_of, check_finite, finite_check_of};
 ghost use Rattle.line_frame.specs.Numbers.{move_of, zero_move_of, move_finite, finite_move_of};
-ghost use Rattle.line_frame.specs.Numbers.{root_answer_of, first_answer_of, second_answer_of, moment_of};
+ghost use Rattle.line_frame.specs.Numbers.{root_answer_of, first_answer_of, second_answer_of};
 
-use line_kinds::{FRAME, takes_roots};
+use line_kinds::FRAME;
 use reading::{all_finite, finite_at, number_at, times};
 use roots::{RootAnswer, Three};
-use step2_solver::{Move, Shape};
+use step2_solver::Move;
 
 // Kind 00's.
 #[derive(Drop)]
@@ -186,28 +186,4 @@ pub fn second_answer(frame: &[u8; FRAME]) -> RootAnswer
     ensures { result ≡ second_answer_of (byte_at frame.now) }
 {
     root_answer(frame, 122)
-}
-
-// The frame inside a frame of kind 20, with the moment after it.
-pub fn inside(frame: &[u8; FRAME]) -> [u8; FRAME]
-    ensures { byte_at result ≡ inside_of (byte_at frame.now) }
-{
-    // Lent as a slice, so that the prover knows how long it is.
-    let all = &frame[..];
-    let mut inner = [0u8; FRAME];
-    for i in 0..FRAME - 1 {
-        inner[i] = all[i + 1];
-    }
-    inner
-}
-
-// The moment after such a frame, which asks the shape.
-pub fn moment(shape: Shape, frame: &[u8; FRAME]) -> f64
-    ensures { result ≡ moment_of shape (byte_at frame.now) }
-{
-    if takes_roots(shape) {
-        number_at(frame, 147)
-    } else {
-        number_at(frame, 97)
-    }
 }

@@ -1,15 +1,12 @@
 -- The table of kinds: what is computed to hold of every row of it holds of the row of any number. Assumes nothing.
 use mathlib.Core.Path.{◌≡◌, refl, sym}
-use mathlib.Core.Bool.{Bool, true, false, not, cond, ◌&&◌, true≢false}
+use mathlib.Core.Bool.{Bool, true, false, cond, ◌&&◌, true≢false}
 use mathlib.Core.List.{List, [], ◌∷◌}
 use Prim.Native.Nat.{ℕ, ◌*◌, ◌≤◌}
 use lib.Dec.{eqb, leb}
-use borrow.Author.Tests.{ne_eqb, eqb-true, leb-true}
-use Rattle.line_kinds.specs.declared.Asks.{Asks}
-use Rattle.line_kinds.specs.declared.Asks.TheVariants.{NoKind, OfCheck, OfShape, OfQuartics, OfCauses, OfMoment}
+use borrow.Author.Tests.{eqb-true, leb-true}
 use Rattle.line_kinds.specs.declared.Row.{Row}
-use Rattle.line_kinds.specs.Kinds.{Kind, kinds, moments, moment_kind, row_in, row_of, frame_most, reply_most}
-use Rattle.line_kinds.specs.Kinds.{spread, places_of}
+use Rattle.line_kinds.specs.Kinds.{Kind, kinds, row_in, row_of, frame_most, reply_most, spread, places_of}
 
 both : (a b : Bool) → a && b ≡ true → (a ≡ true) × (b ≡ true)
 both true b h = (refl, h)
@@ -53,27 +50,6 @@ of_sound r h =
       leb-true r.places (spread * (2 * r.bytes)) c.1,
     )
 
-pub sound : (n inside : ℕ) → Sound (row_of n inside)
+pub sound : (n : ℕ) → Sound (row_of n)
 unfolding row_of
-sound n inside = by (eqb n moment_kind)
-  where
-    by : (b : Bool) → Sound (cond b (row_in moments inside) (row_in kinds n))
-    by true = of_sound (row_in moments inside) (each_in is_sound inside refl moments refl)
-    by false = of_sound (row_in kinds n) (each_in is_sound n refl kinds refl)
-
--- ---- whether the state at a moment is asked: of kind 20 alone
-abbrev pub is_moment : Asks → Bool
-is_moment NoKind = false
-is_moment OfCheck = false
-is_moment (OfShape shape) = false
-is_moment (OfQuartics shape) = false
-is_moment (OfCauses shape) = false
-is_moment (OfMoment shape) = true
-
-pub plain : (n inside : ℕ) → (n ≡ moment_kind → ⊥) → is_moment (row_of n inside).asks ≡ false
-unfolding row_of
-plain n inside h = rw (ne_eqb n moment_kind h) (is_not _ (each_in (λ (r : Row). not (is_moment r.asks)) n refl kinds refl))
-  where
-    is_not : (b : Bool) → not b ≡ true → b ≡ false
-    is_not true h = absurd (true≢false (sym h))
-    is_not false h = refl
+sound n = of_sound (row_in kinds n) (each_in is_sound n refl kinds refl)

@@ -1,22 +1,22 @@
 -- Definitions only. The kinds of line, one row each: the bytes of the frame, the places of the reply,
--- and what the line asks. Kind 20 has a row for each kind that the frame inside it may have.
-use Rattle.std.specs.Prelude.{Bool, true, false, cond, List, [], ◌∷◌, ℕ, ◌+◌, ◌*◌, eqb}
+-- and what the line asks.
+use Rattle.std.specs.Prelude.{Bool, true, false, cond, List, [], ◌∷◌, ℕ, ◌*◌, eqb}
 use Rattle.step2_solver.specs.declared.Shape.{Shape}
 use Rattle.step2_solver.specs.declared.Shape.TheVariants.{Acc0Acc1Vel, Acc1Vel, Acc0Vel, Acc0Acc1, Acc0, RestToRest}
 use Rattle.line_kinds.specs.declared.Asks.{Asks}
-use Rattle.line_kinds.specs.declared.Asks.TheVariants.{NoKind, OfCheck, OfShape, OfQuartics, OfCauses, OfMoment}
+use Rattle.line_kinds.specs.declared.Asks.TheVariants.{NoKind, OfCheck, OfShape, OfQuartics, OfCauses}
 use Rattle.line_kinds.specs.declared.Row.{Row}
 
 -- ---- sizes
 -- the bytes of the longest frame, and its characters, two a byte: the longest line
 abbrev pub frame_most : ℕ
-frame_most = 156
+frame_most = 148
 
 abbrev pub line_most : ℕ
 line_most = 2 * frame_most
 
--- a record is 364 bytes, with count and cause 366, two quartics are 114, a state is 24: the places of each reply, two a
--- byte, and of the longest
+-- a record is 364 bytes, with count and cause 366, two quartics are 114: the places of each reply, two a byte, and of
+-- the longest
 abbrev pub record_places : ℕ
 record_places = 2 * 364
 
@@ -25,9 +25,6 @@ causes_places = 2 * 366
 
 abbrev pub quartics_places : ℕ
 quartics_places = 2 * 114
-
-abbrev pub state_places : ℕ
-state_places = 2 * 24
 
 abbrev pub reply_most : ℕ
 reply_most = causes_places
@@ -42,7 +39,6 @@ places_of OfCheck = record_places
 places_of (OfShape shape) = record_places
 places_of (OfQuartics shape) = quartics_places
 places_of (OfCauses shape) = causes_places
-places_of (OfMoment shape) = state_places
 
 -- the second and the third shape try the roots of quartics; their lines have the answers
 abbrev pub takes_roots_of : Shape → Bool
@@ -79,24 +75,10 @@ kinds =
     ∷ kind 0x15 97 (OfCauses Acc0)
     ∷ []
 
--- kind 20: its own byte, a whole frame of kinds 01 to 05, and s, eight bytes; by the kind inside
-abbrev pub moment_kind : ℕ
-moment_kind = 0x20
-
-abbrev pub moments : List Kind
-moments =
-    kind 0x01 (1 + 97 + 8) (OfMoment Acc0Acc1Vel)
-    ∷ kind 0x02 (1 + 147 + 8) (OfMoment Acc1Vel)
-    ∷ kind 0x03 (1 + 147 + 8) (OfMoment Acc0Vel)
-    ∷ kind 0x04 (1 + 97 + 8) (OfMoment Acc0Acc1)
-    ∷ kind 0x05 (1 + 97 + 8) (OfMoment Acc0)
-    ∷ []
-
 -- the row of the number n; a frame of no bytes, which asks nothing, where there is no such kind
 abbrev pub row_in : List Kind → ℕ → Row
 row_in [] n = record { bytes = 0; places = 0; asks = NoKind }
 row_in (k ∷ ks) n = cond (eqb n k.number) k.row (row_in ks n)
 
--- the row of a frame, by its first byte, the kind, and its second, which is the kind inside a frame of kind 20
-unfoldable pub row_of : ℕ → ℕ → Row
-row_of n inside = cond (eqb n moment_kind) (row_in moments inside) (row_in kinds n)
+unfoldable pub row_of : ℕ → Row
+row_of n = row_in kinds n

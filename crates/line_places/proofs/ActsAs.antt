@@ -4,9 +4,9 @@
 use mathlib.Core.Path.{◌≡◌, refl, sym, ap, ◌∙◌}
 use mathlib.Core.Bool.{true, false, cond, true≢false}
 use mathlib.Core.List.{List, [], ◌∷◌, ◌++◌}
-use Prim.Native.Nat.{ℕ, suc, ◌+◌, ◌*◌}
+use Prim.Native.Nat.{ℕ, ◌+◌, ◌*◌}
 use native.Mathlib.Omega.{arith}
-use lib.Dec.{eqb, leb, lit≤}
+use lib.Dec.{eqb, leb}
 use lib.ListN.{length}
 use borrow.Author.Tests.{le-leb, leb-true}
 use Rattle.hex_bytes.specs.Hex.{is_digit_of, value_of, bytes_of, hex_of}
@@ -22,15 +22,15 @@ use Rattle.line_kinds.specs.declared.Row.{Row}
 use Rattle.line_kinds.specs.Kinds.{record_places, causes_places, places_of, row_of}
 use Rattle.line_frame.specs.Frame.{Frame, byte_at, word_at}
 use Rattle.line_frame.specs.Numbers.{move_of, root_answer_of}
-use Rattle.line_questions.specs.Questions.{holds_kind, counts_fit_of, counts_suit_of, Question, ask, first_no}
+use Rattle.line_questions.specs.Questions.{Question, ask, counts_fit_of, counts_suit_of, questions_of}
+use Rattle.line_questions.specs.Questions.{first_no, line_questions_of, questions}
 use Rattle.line_questions.proofs.Asked.{Numbered, harder_last}
 use Rattle.line_reply.specs.Reply.{reply_bytes_of, causes_bytes_of}
 use Rattle.line_answers.specs.ShapeLine.{shape_line_of}
-use Rattle.line_answers.specs.Asked.{questions_of, line_questions_of, questions}
 use Rattle.line_answers.specs.FrameAnswer.{reply_of, replied_of}
 use Rattle.lines.specs.Answer.{answer_of}
 use Rattle.line_places.specs.ActsAs.{digit_for, ActsAs}
-use Rattle.line_places.proofs.Places.{numbered, both_up_to, of_line, of_asks}
+use Rattle.line_places.proofs.Places.{numbered, of_asks}
 
 -- ---- what a shape is asked and reads of a frame stands after the kind
 module _ (shape : Shape) (x y : ℕ) (bs : List ℕ) where
@@ -61,30 +61,29 @@ module _ (shape : Shape) (a b d n : ℕ) (rest : List ℕ) where
   abbrev y : ℕ
   y = 16 * value_of b + value_of d
 
-  -- the row of a frame of either kind, whatever stands at place 1, and neither is too short to hold its kind
-  module _ (e : (i : ℕ) → row_of x i ≡ row_with n (OfCauses shape)) (f : (i : ℕ) → row_of y i ≡ row_with n (OfShape shape))
-      (h : is_digit_of a ≡ is_digit_of b) (g : (k : ℕ) → holds_kind x k ≡ holds_kind y k) where
+  module _ (e : row_of x ≡ row_with n (OfCauses shape)) (f : row_of y ≡ row_with n (OfShape shape))
+      (h : is_digit_of a ≡ is_digit_of b) where
     abbrev at : Frame
     at = byte_at (y ∷ bytes_of rest)
-
-    abbrev second : ℕ
-    second = byte_at (bytes_of rest) 0
 
     -- what both are asked before the places
     abbrev asked : List Question
     asked = line_questions_of (b ∷ d ∷ rest) (row_with n (OfShape shape)) ++ questions_of (OfShape shape) at
 
     line-asked : (p : ℕ) → questions (a ∷ d ∷ rest) p ≡ asked ++ (ask 8 (leb causes_places p) ∷ [])
-    line-asked p = rw (e second, h, g (suc (length (bytes_of rest))), same-questions shape x y (bytes_of rest))
+    line-asked p = rw (e, h, same-questions shape x y (bytes_of rest))
 
     like_asked : (p : ℕ) → questions (b ∷ d ∷ rest) p ≡ asked ++ (ask 8 (leb record_places p) ∷ [])
-    like_asked p = rw (f second)
+    like_asked p = rw f
 
     all_numbered : Numbered asked
-    all_numbered =
-        numbered 8 asked
-        (both_up_to 8 (line_questions_of (b ∷ d ∷ rest) (row_with n (OfShape shape))) (questions_of (OfShape shape) at)
-        (of_line 8 (b ∷ d ∷ rest) (row_with n (OfShape shape)) (lit≤ tt)) (of_asks (OfShape shape) at))
+    all_numbered = (
+      λ z. omega arith,
+      (
+        λ z. omega arith,
+        (λ z. omega arith, (λ z. omega arith, numbered (questions_of (OfShape shape) at) (of_asks (OfShape shape) at))),
+      ),
+    )
 
     enough : (p : ℕ) → leb causes_places p ≡ true → leb record_places p ≡ true
     enough p k = let l = leb-true causes_places p k in le-leb record_places p (omega arith)
@@ -102,15 +101,15 @@ module _ (shape : Shape) (a b d n : ℕ) (rest : List ℕ) where
         (sym (like_asked p))
 
     acts : ActsAs shape (a ∷ d ∷ rest) (b ∷ d ∷ rest)
-    acts = record { number = number_is; reply = rw (e second, f second) (reply_begins shape x y (bytes_of rest)) }
+    acts = record { number = number_is; reply = rw (e, f) (reply_begins shape x y (bytes_of rest)) }
 
 -- 48 and 49 are the digits 0 and 1; there is no kind 18
 pub acts_as : (shape : Shape) → is_rest_to_rest_of shape ≡ false → (rest : List ℕ)
     → ActsAs shape (49 ∷ digit_for shape ∷ rest) (48 ∷ digit_for shape ∷ rest)
 unfolding row_of
-acts_as Acc0Acc1Vel h rest = acts Acc0Acc1Vel 49 48 49 97 rest (λ i. refl) (λ i. refl) refl (λ k. refl)
-acts_as Acc1Vel h rest = acts Acc1Vel 49 48 50 147 rest (λ i. refl) (λ i. refl) refl (λ k. refl)
-acts_as Acc0Vel h rest = acts Acc0Vel 49 48 51 147 rest (λ i. refl) (λ i. refl) refl (λ k. refl)
-acts_as Acc0Acc1 h rest = acts Acc0Acc1 49 48 52 97 rest (λ i. refl) (λ i. refl) refl (λ k. refl)
-acts_as Acc0 h rest = acts Acc0 49 48 53 97 rest (λ i. refl) (λ i. refl) refl (λ k. refl)
+acts_as Acc0Acc1Vel h rest = acts Acc0Acc1Vel 49 48 49 97 rest refl refl refl
+acts_as Acc1Vel h rest = acts Acc1Vel 49 48 50 147 rest refl refl refl
+acts_as Acc0Vel h rest = acts Acc0Vel 49 48 51 147 rest refl refl refl
+acts_as Acc0Acc1 h rest = acts Acc0Acc1 49 48 52 97 rest refl refl refl
+acts_as Acc0 h rest = acts Acc0 49 48 53 97 rest refl refl refl
 acts_as RestToRest h rest = absurd (true≢false h)

@@ -24,7 +24,6 @@ use Rattle.labels.specs.declared.causes.Cause.TheVariants.{EndPosition, EndVeloc
 use Rattle.labels.specs.declared.causes.Cause.TheVariants.{AccelerationLimit, VelocityLimit, NoCall, NoRoot}
 use Rattle.labels.specs.Causes.{cause_number_of}
 use Rattle.row.specs.Row.{Numbers}
-use Rattle.util.specs.declared.State.{State}
 use Rattle.profile.specs.declared.Checked.{Checked}
 use Rattle.profile.specs.Parts.{numbers_of}
 use Rattle.roots.specs.declared.Need.{Need}
@@ -32,7 +31,7 @@ use Rattle.roots.specs.declared.Need.TheVariants.{Nothing, Cube, Resolvent}
 use Rattle.roots.specs.Quartic.{need_of, need_number_of, resolvent_of}
 use Rattle.line_frame.specs.Frame.{Frame}
 use Rattle.line_reply.specs.Reply.{numbers_bytes, head_of, rows_of, reply_bytes_of, causes_bytes_of}
-use Rattle.line_reply.specs.Reply.{quartic_bytes_of, quartic_bytes, state_bytes_of}
+use Rattle.line_reply.specs.Reply.{quartic_bytes_of, quartic_bytes}
 use Rattle.step2_solver.specs.declared.Shape.{Shape}
 use Rattle.line_questions.specs.Questions.{quartics_at}
 use Rattle.line_answers.specs.QuarticLine.{both_bytes, quartic_line_of}
@@ -159,8 +158,3 @@ unfolding both_bytes
 quartics_bytes shape at =
     let q = quartics_at shape at in
     bytes_append (quartic_bytes q.uddu) (quartic_bytes q.udud) (of_list q.uddu) (of_list q.udud)
-
--- ---- kind 20: three numbers
-pub state_bytes : (s : State) → Bytes (state_bytes_of s)
-unfolding state_bytes_of
-state_bytes s = numbers_are_bytes (s.p ∷ s.v ∷ s.a ∷ [])

@@ -13,19 +13,18 @@ use Rattle.step2_solver.specs.New.{solver_of, limits_of}
 use Rattle.position_third_step2.specs.Shape.{fresh}
 use Rattle.position_third_step2.proofs.Keeps.{Lengths, check_keeps, shape_keeps}
 use Rattle.line_kinds.specs.declared.Asks.{Asks}
-use Rattle.line_kinds.specs.declared.Asks.TheVariants.{NoKind, OfCheck, OfShape, OfQuartics, OfCauses, OfMoment}
+use Rattle.line_kinds.specs.declared.Asks.TheVariants.{NoKind, OfCheck, OfShape, OfQuartics, OfCauses}
 use Rattle.line_kinds.specs.Kinds.{places_of}
-use Rattle.line_frame.specs.Frame.{Frame, inside_of}
-use Rattle.line_frame.specs.Numbers.{check_numbers_of, move_of, first_answer_of, second_answer_of, moment_of}
+use Rattle.line_frame.specs.Frame.{Frame}
+use Rattle.line_frame.specs.Numbers.{check_numbers_of, move_of, first_answer_of, second_answer_of}
 use Rattle.line_questions.specs.Questions.{quartics_at}
-use Rattle.line_reply.specs.Reply.{head_of, reply_bytes_of, causes_bytes_of, quartic_bytes_of, state_bytes_of}
+use Rattle.line_reply.specs.Reply.{head_of, reply_bytes_of, causes_bytes_of, quartic_bytes_of}
 use Rattle.line_reply.proofs.Rows.{rows_length}
 use Rattle.line_answers.specs.CheckLine.{checked_of, check_line_of}
 use Rattle.line_answers.specs.ShapeLine.{shape_line_of}
 use Rattle.line_answers.specs.QuarticLine.{both_bytes, quartic_line_of}
-use Rattle.line_answers.specs.MomentLine.{moment_line_of}
 use Rattle.line_answers.specs.FrameAnswer.{reply_of}
-use Rattle.line_places.proofs.Bytes.{Bytes, reply_bytes, causes_bytes, quartics_bytes, state_bytes}
+use Rattle.line_places.proofs.Bytes.{Bytes, reply_bytes, causes_bytes, quartics_bytes}
 
 -- ---- a record: the one that a line starts from, and what `check` or a shape leaves of it
 pub fresh_lengths : (p0 v0 a0 pf vf af : Float) → Lengths (boundary_of p0 v0 a0 pf vf af default_of)
@@ -83,7 +82,7 @@ quartics_length shape at = refl
 
 -- ---- the reply, by what is asked
 pub reply_of_length : (asks : Asks) (at : Frame) → 2 * length (reply_of asks at) ≡ places_of asks
-unfolding reply_of state_bytes_of
+unfolding reply_of
 reply_of_length NoKind at = refl
 reply_of_length OfCheck at = ap (λ (n : ℕ). 2 * n) (reply-length (check_line_of at) (check_lengths at))
 reply_of_length (OfShape shape) at =
@@ -91,7 +90,6 @@ reply_of_length (OfShape shape) at =
 reply_of_length (OfQuartics shape) at = ap (λ (n : ℕ). 2 * n) (quartics_length shape at)
 reply_of_length (OfCauses shape) at =
     ap (λ (n : ℕ). 2 * n) (causes-length (shape_line_of shape at) (shape_lengths shape at))
-reply_of_length (OfMoment shape) at = refl
 
 pub reply_of_bytes : (asks : Asks) (at : Frame) → Bytes (reply_of asks at)
 unfolding reply_of
@@ -100,5 +98,3 @@ reply_of_bytes OfCheck at = reply_bytes (check_line_of at)
 reply_of_bytes (OfShape shape) at = reply_bytes (shape_line_of shape at)
 reply_of_bytes (OfQuartics shape) at = quartics_bytes shape at
 reply_of_bytes (OfCauses shape) at = causes_bytes (shape_line_of shape at) (shape_lengths shape at).byte_calls
-reply_of_bytes (OfMoment shape) at =
-    let inside = inside_of at in state_bytes (moment_line_of shape (moment_of shape inside) inside)

@@ -14,10 +14,9 @@ use Rattle.line_kinds.specs.declared.Asks.TheVariants.{OfShape}
 use Rattle.line_kinds.specs.Kinds.{row_of}
 use Rattle.line_frame.specs.Frame.{Frame, byte_at, word_at}
 use Rattle.line_frame.specs.Numbers.{move_of}
-use Rattle.line_questions.specs.Questions.{Question, first_no, counts_fit_of, counts_suit_of}
+use Rattle.line_questions.specs.Questions.{Question, first_no, counts_fit_of, counts_suit_of, questions_of, questions}
 use Rattle.line_reply.specs.Reply.{reply_bytes_of}
 use Rattle.line_answers.specs.ShapeLine.{shape_line_of}
-use Rattle.line_answers.specs.Asked.{questions_of, questions}
 use Rattle.line_answers.specs.FrameAnswer.{reply_of, replied_of}
 use Rattle.lines.specs.Answer.{answer_of}
 use Rattle.line_places.specs.RestToRest.{of08, of04, at_rest_of, As04}

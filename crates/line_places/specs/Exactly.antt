@@ -2,8 +2,9 @@
 -- Definitions only.
 use Rattle.std.specs.Prelude.{◌≡◌, true, List, ◌++◌, ℕ, ◌≤◌, length, drop}
 use Rattle.hex_bytes.specs.Hex.{all_digits_of, bytes_of, hex_of}
+use Rattle.line_frame.specs.Frame.{byte_at}
 use Rattle.line_kinds.specs.declared.Row.{Row}
-use Rattle.line_frame.specs.Frame.{byte_at, row_at}
+use Rattle.line_kinds.specs.Kinds.{row_of}
 use Rattle.line_answers.specs.FrameAnswer.{reply_of}
 use Rattle.lines.specs.Answer.{answer_of}
 
@@ -13,7 +14,7 @@ kind_of line = byte_at (bytes_of line) 0
 
 -- its row in the table of kinds
 abbrev pub row_for : List ℕ → Row
-row_for line = row_at (byte_at (bytes_of line))
+row_for line = row_of (kind_of line)
 
 -- the characters of the reply to a line
 abbrev pub reply_to_of : List ℕ → List ℕ

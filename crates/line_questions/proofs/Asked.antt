@@ -1,12 +1,17 @@
 -- The first question with a no, over any list of questions: where the first ones were answered yes, the rest decides;
--- where none of them decides, each was answered yes; and what a harder last question changes. Assumes nothing.
+-- where none was answered no, each was answered yes; and what a harder last question changes. Assumes nothing.
 use mathlib.Core.Path.{◌≡◌, refl, sym}
 use mathlib.Core.Bool.{Bool, true, false, cond, true≢false}
-use mathlib.Core.List.{List, [], ◌∷◌, ◌++◌, append-nil}
+use mathlib.Core.List.{List, [], ◌∷◌, ◌++◌}
 use Prim.Native.Nat.{ℕ}
 use lib.Dec.{eqb}
 use borrow.Author.Tests.{ne_eqb}
 use Rattle.line_questions.specs.Questions.{Question, ask, first_no, AllYes}
+
+-- every question of a list has a number, which is not 0
+abbrev pub Numbered : List Question → Type 0
+Numbered [] = Unit {0}
+Numbered (q ∷ qs) = (q.number ≡ 0 → ⊥) × Numbered qs
 
 -- the first k were answered yes: the rest decides
 pub past : (first rest : List Question) → AllYes first → first_no (first ++ rest) ≡ first_no rest
@@ -24,27 +29,14 @@ pub none : (qs : List Question) → AllYes qs → first_no qs ≡ 0
 none [] h = refl
 none (q ∷ qs) h = rw h.0 (none qs h.1)
 
--- every question of a list has another number than n
-abbrev pub Unlike : ℕ → List Question → Type 0
-Unlike n [] = Unit {0}
-Unlike n (q ∷ qs) = (q.number ≡ n → ⊥) × Unlike n qs
-
--- where the number is n, which is none of the first ones', those were answered yes
-pub first_yes : (n : ℕ) (first rest : List Question) → Unlike n first → first_no (first ++ rest) ≡ n → AllYes first
-first_yes n [] rest h e = tt
-first_yes n (q ∷ first) rest h e = by q.yes refl e (first_yes n first rest h.1)
-  where
-    by : (b : Bool) → q.yes ≡ b → cond b (first_no (first ++ rest)) q.number ≡ n
-        → (first_no (first ++ rest) ≡ n → AllYes first) → AllYes (q ∷ first)
-    by true g e then = (g, then e)
-    by false g e then = absurd (h.0 e)
-
--- a number, which is not 0; 0 says that all were answered yes
-abbrev pub Numbered : List Question → Type 0
-Numbered qs = Unlike 0 qs
-
+-- 0 says that all were answered yes
 pub all_yes : (qs : List Question) → Numbered qs → first_no qs ≡ 0 → AllYes qs
-all_yes qs h e = first_yes 0 qs [] h (rw (append-nil qs) e)
+all_yes [] n e = tt
+all_yes (q ∷ qs) n e = by q.yes refl e (all_yes qs n.1)
+  where
+    by : (b : Bool) → q.yes ≡ b → cond b (first_no qs) q.number ≡ 0 → (first_no qs ≡ 0 → AllYes qs) → AllYes (q ∷ qs)
+    by true h e rest = (h, rest e)
+    by false h e rest = absurd (n.0 e)
 
 -- of two lists one after the other
 pub all_first : (first rest : List Question) → AllYes (first ++ rest) → AllYes first

@@ -1,5 +1,5 @@
 -- The replies: of kinds 00 to 05 and 08 the verdict and the whole record, in 364 bytes; of kinds 11 to 15 the same with
--- count and cause, in 366; of kinds 06 and 07 two quartics, in 114; of kind 20 a state, in 24. Definitions only.
+-- count and cause, in 366; of kinds 06 and 07 two quartics, in 114. Definitions only.
 use Rattle.std.specs.Prelude.{true, false, cond, List, [], ◌∷◌, ◌++◌, ℕ, leb, length, get_or, Float}
 use Rattle.std.specs.Float.{nan}
 use Rattle.hex_bytes.specs.Hex.{Filled, hex_of, fill}
@@ -7,7 +7,6 @@ use Rattle.number_bytes.specs.Bytes.{number_bytes_of}
 use Rattle.labels.specs.Labels.{label_number_of, direction_number_of, signs_number_of}
 use Rattle.labels.specs.Causes.{cause_number_of}
 use Rattle.row.specs.Row.{Numbers}
-use Rattle.util.specs.declared.State.{State}
 use Rattle.profile.specs.Parts.{numbers_of, labels_of}
 use Rattle.profile.specs.declared.in_place.Verdict.{Verdict}
 use Rattle.profile.specs.declared.Checked.{Checked}
@@ -52,10 +51,6 @@ quartic_bytes_of a b c d =
 -- the same, of four coefficients
 abbrev pub quartic_bytes : List Float → List ℕ
 quartic_bytes p = quartic_bytes_of (get_or p 0 nan) (get_or p 1 nan) (get_or p 2 nan) (get_or p 3 nan)
-
--- position, velocity and acceleration
-unfoldable pub state_bytes_of : State → List ℕ
-state_bytes_of s = numbers_bytes (s.p ∷ s.v ∷ s.a ∷ [])
 
 -- A reply of n characters goes into the first lent places; where these are fewer than n the answer is no, and they stay
 -- as they came.

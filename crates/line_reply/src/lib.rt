@@ -5,8 +5,8 @@ mod stores;
 
 ghost use Rattle.std.specs.Prelude.{◌≡◌, ◌++◌};
 ghost use Rattle.profile.specs.Parts.{checked_in};
-ghost use Rattle.line_kinds.specs.Kinds.{record_places, causes_places, quartics_places, state_places};
-ghost use Rattle.line_reply.specs.Reply.{reply_bytes_of, causes_bytes_of, quartic_bytes, state_bytes_of, written_of};
+ghost use Rattle.line_kinds.specs.Kinds.{record_places, causes_places, quartics_places};
+ghost use Rattle.line_reply.specs.Reply.{reply_bytes_of, causes_bytes_of, quartic_bytes, written_of};
 
 use hex_bytes::encode;
 use labels::causes::cause_number;
@@ -15,8 +15,6 @@ use profile::in_place::Verdict;
 use quartics::put_quartics;
 use record::put_record;
 use row::NUMBERS;
-use stores::put_row;
-use util::State;
 
 // The characters of a record's bytes.
 fn send(bytes: &[u8; 364], reply: &mut [u8]) -> bool
@@ -60,16 +58,5 @@ pub fn write_quartics(reply: &mut [u8], uddu: [f64; 4], udud: [f64; 4]) -> bool
 {
     let mut bytes = [0u8; 114];
     put_quartics(&mut bytes, uddu, udud);
-    encode(&bytes, reply)
-}
-
-// The reply of a state; no, and nothing touched, where the places are fewer.
-pub fn write_state(reply: &mut [u8], s: State) -> bool
-    ensures { record { ok = result; left = reply.new }
-        ≡ written_of state_places (state_bytes_of s) reply.old }
-{
-    let mut bytes = [0u8; 24];
-    let row = [s.p, s.v, s.a];
-    put_row(&mut bytes, 0, &row);
     encode(&bytes, reply)
 }

@@ -11,13 +11,12 @@ use lib.Seq.{take_at}
 use borrow.Author.Tests.{ne_eqb, eqb-true, le-leb}
 use Rattle.hex_bytes.specs.Hex.{bytes_of}
 use Rattle.hex_bytes.proofs.Turns.{length_bytes}
-use Rattle.line_kinds.specs.Kinds.{reply_most, spread}
-use Rattle.line_kinds.proofs.Rows.{Sound, sound}
-use Rattle.line_frame.specs.Frame.{byte_at}
+use Rattle.line_kinds.specs.Kinds.{reply_most, spread, row_of}
+use Rattle.line_kinds.proofs.Rows.{sound}
 use Rattle.line_questions.specs.Questions.{places_fit}
 use Rattle.line_answers.specs.FrameAnswer.{replied_of}
 use Rattle.lines.specs.Answer.{answer_of, Outcome, outcome_of}
-use Rattle.line_places.specs.Exactly.{row_for, reply_to_of}
+use Rattle.line_places.specs.Exactly.{kind_of, reply_to_of}
 use Rattle.line_places.proofs.Places.{every_yes}
 use Rattle.line_stream.specs.Output.{answer_most, pair_of_digits, text_of, line_output}
 use Rattle.line_stream.proofs.Replies.{reply-first, reply-exact}
@@ -27,29 +26,26 @@ abbrev zeros : List ℕ
 zeros = replicate reply_most 0
 
 -- ---- the most places
-row_sound : (line : List ℕ) → Sound (row_for line)
-row_sound line = let bytes = bytes_of line in sound (byte_at bytes 0) (byte_at bytes 1)
-
-filled_within : (line lent : List ℕ) (n : ℕ) → ((answer_of line lent).number ≡ 0 → (row_for line).places ≤ n)
+filled_within : (line lent : List ℕ) (n : ℕ) → ((answer_of line lent).number ≡ 0 → (row_of (kind_of line)).places ≤ n)
     → (outcome_of line lent).filled ≤ n
 unfolding outcome_of
 filled_within line lent n h = by (eqb (answer_of line lent).number 0) refl
   where
-    by : (b : Bool) → eqb (answer_of line lent).number 0 ≡ b → cond b (row_for line).places 0 ≤ n
+    by : (b : Bool) → eqb (answer_of line lent).number 0 ≡ b → cond b (row_of (kind_of line)).places 0 ≤ n
     by true e = h (eqb-true (answer_of line lent).number 0 e)
     by false e = omega arith
 
 pub filled_most : (line lent : List ℕ) → (outcome_of line lent).filled ≤ reply_most
-filled_most line lent = filled_within line lent reply_most (λ e. (row_sound line).2)
+filled_most line lent = filled_within line lent reply_most (λ e. (sound (kind_of line)).2)
 
 -- an accepted line has two characters for each byte of its kind
 filled-spread : (line lent : List ℕ) → (outcome_of line lent).filled ≤ spread * length line
 filled-spread line lent =
     filled_within line lent (spread * length line)
     (λ e.
-    by (row_for line).places (row_for line).bytes (length (bytes_of line)) (length line)
-    (row_sound line).3
-    (eqb-true (length (bytes_of line)) (row_for line).bytes (every_yes line lent e).1.1.1.1.0)
+    by (row_of (kind_of line)).places (row_of (kind_of line)).bytes (length (bytes_of line)) (length line)
+    (sound (kind_of line)).3
+    (eqb-true (length (bytes_of line)) (row_of (kind_of line)).bytes (every_yes line lent e).1.1.1.0)
     (length_bytes line))
   where
     by : (places bytes n line : ℕ) → places ≤ spread * (2 * bytes) → n ≡ bytes → n ≡ line / 2 → places ≤ spread * line
@@ -87,8 +83,8 @@ output_spread line =
 
 -- ---- the number, whatever is lent
 -- question 8 is answered yes
-enough : (line : List ℕ) (p : ℕ) → reply_most ≤ p → places_fit (row_for line) p ≡ true
-enough line p h = le-leb (row_for line).places p (within (row_for line).places (row_sound line).2)
+enough : (n p : ℕ) → reply_most ≤ p → places_fit (row_of n) p ≡ true
+enough n p h = le-leb (row_of n).places p (within (row_of n).places (sound n).2)
   where
     within : (r : ℕ) → r ≤ reply_most → r ≤ p
     within r l = omega arith
@@ -96,7 +92,7 @@ enough line p h = le-leb (row_for line).places p (within (row_for line).places (
 same_number : (line lent other : List ℕ) → reply_most ≤ length lent → reply_most ≤ length other
     → (answer_of line lent).number ≡ (answer_of line other).number
 unfolding answer_of replied_of
-same_number line lent other h k = rw (enough line (length lent) h, enough line (length other) k)
+same_number line lent other h k = rw (enough (kind_of line) (length lent) h, enough (kind_of line) (length other) k)
 
 zeros_enough : reply_most ≤ length zeros
 zeros_enough = lit≤ tt

@@ -1,26 +1,43 @@
 -- Assumes nothing. The ways out of the line entry: what `outcome_of` is, from what each of
 -- its parts says on the way there.
-use mathlib.Core.Path.{◌≡◌, refl, ap, sym, ◌∙◌}
+use mathlib.Core.Path.{◌≡◌, refl, ap, sym, ◌∙◌, fun_ext}
 use mathlib.Core.Bool.{Bool, true, false, cond, not, ◌&&◌}
-use mathlib.Core.List.{List, [], ◌∷◌}
-use Prim.Native.Nat.{ℕ, suc, ◌+◌, ◌*◌, ◌/◌, ◌%◌, ◌≤◌}
+use mathlib.Core.List.{List, [], ◌∷◌, ◌++◌}
+use Prim.Native.Nat.{ℕ, zero, suc, ◌+◌, ◌*◌, ◌/◌, ◌%◌, ◌≤◌}
 use native.Mathlib.Omega.{arith}
 use lib.Dec.{eqb, leb}
-use lib.ListN.{length, replicate, length-replicate}
+use lib.ListN.{length, get_or, drop, replicate, length-replicate}
+use lib.Seq.{get_or-drop}
 use borrow.Author.Tests.{eq-eqb, ne_eqb, le-ltb, eqb-true, leb-true}
 use Rattle.hex_bytes.proofs.Digits.{and_left, and_right}
 use Rattle.hex_bytes.specs.Hex.{Filled, all_digits_of, bytes_of, fill, decode_of}
 use Rattle.line_kinds.specs.declared.Row.{Row}
-use Rattle.line_kinds.specs.Kinds.{frame_most, line_most, moment_kind, moments, kinds, row_in, row_of}
+use Rattle.line_kinds.specs.Kinds.{frame_most, line_most, places_of, row_of}
 use Rattle.line_kinds.proofs.Rows.{sound}
-use Rattle.line_frame.specs.Frame.{Frame, byte_at, row_at}
-use Rattle.line_frame.proofs.Shifted.{frame_at}
-use Rattle.line_questions.specs.Questions.{Question, ask, AllYes, length_fits_of, holds_kind, is_kind, bytes_fit}
+use Rattle.line_frame.specs.Frame.{Frame, byte_at}
+use Rattle.line_questions.specs.Questions.{Question, ask, length_fits_of, is_kind, bytes_fit, questions_of, line_questions_of}
+use Rattle.line_questions.specs.Questions.{AllYes}
 use Rattle.line_questions.proofs.Asked.{past}
-use Rattle.line_answers.specs.Asked.{questions_of, line_questions_of}
 use Rattle.line_answers.specs.FrameAnswer.{Answer, reply_of, replied_of, frame_answer_of}
 use Rattle.lines.specs.Answer.{answer_of, Outcome, outcome_of}
 use Rattle.line_answers.proofs.Replies.{refused}
+
+-- ---- a frame in its array, zeros after it
+zeros_at : (n i : ℕ) → ◌≡◌ {A = ℕ} (get_or (replicate n 0) i 0) 0
+zeros_at zero i = refl
+zeros_at (suc n) zero = refl
+zeros_at (suc n) (suc i) = zeros_at n i
+
+behind : (xs ys : List ℕ) (i : ℕ) → ((k : ℕ) → get_or ys k 0 ≡ 0) → get_or (xs ++ ys) i 0 ≡ get_or xs i 0
+behind [] ys i h = h i
+behind (x ∷ xs) ys zero h = refl
+behind (x ∷ xs) ys (suc i) h = behind xs ys i h
+
+pub frame_at : (xs : List ℕ) (n : ℕ) → byte_at (fill xs (replicate n 0)) ≡ byte_at xs
+frame_at xs n =
+    fun_ext
+    (λ i. behind xs (drop (length xs) (replicate n 0)) i
+    (λ k. get_or-drop (length xs) (replicate n 0) k 0 ∙ zeros_at n (length xs + k)))
 
 -- ---- the count of characters
 module _ (n : ℕ) (h : length_fits_of n ≡ true) where
@@ -41,32 +58,13 @@ pairs (a ∷ b ∷ line) = let h = pairs line in (omega arith, omega arith)
 half : (line : List ℕ) → length line / 2 ≡ length (bytes_of line)
 half line = let h = pairs line in omega arith
 
--- ---- a frame that has a row holds its kinds
-held : (bs : List ℕ) → ((row_at (byte_at bs)).bytes ≡ 0 → ⊥) → holds_kind (byte_at bs 0) (length bs) ≡ true
-unfolding row_of
-held [] h = refl
-held (b ∷ []) h = by (eqb b moment_kind) h
-  where
-    by : (k : Bool) → ((cond k (row_in moments 0) (row_in kinds b)).bytes ≡ 0 → ⊥) → not (k && true) ≡ true
-    by true h = absurd (h refl)
-    by false h = refl
-held (b ∷ c ∷ bs) h = rw (ne_eqb (suc (suc (length bs))) 1 (λ e. omega arith)) (by (eqb b moment_kind))
-  where
-    by : (k : Bool) → not (k && false) ≡ true
-    by true = refl
-    by false = refl
-
 -- ---- the ways out
 module _ (line lent : List ℕ) where
   abbrev at : Frame
   at = byte_at (bytes_of line)
 
   abbrev row : Row
-  row = row_at at
-
-  -- whether it holds the kind inside, where it asks for one
-  abbrev holds : Bool
-  holds = holds_kind (at 0) (length (bytes_of line))
+  row = row_of (at 0)
 
   -- after a number nothing is filled
   numbered : (n : ℕ) → record { number = n; places = lent } ≡ answer_of line lent → (n ≡ 0 → ⊥)
@@ -103,64 +101,41 @@ module _ (line lent : List ℕ) where
         (λ e. omega arith)
 
     pub frame_is : byte_at bytes ≡ at
-    frame_is = rw (ap (λ x. x.left) decoded) (frame_at (bytes_of line) frame_most (length (bytes_of line)))
+    frame_is = rw (ap (λ x. x.left) decoded) (frame_at (bytes_of line) frame_most)
 
-    module _ (h2 : ok ≡ true) {r : Row} (er : r ≡ row_at (byte_at bytes)) where
+    module _ (h2 : ok ≡ true) {r : Row} (er : r ≡ row_of (byte_at bytes 0)) where
       row_is : r ≡ row
-      row_is = er ∙ ap row_at frame_is
+      row_is = er ∙ ap (λ (f : Frame). row_of (f 0)) frame_is
 
       digits : all_digits_of line ≡ true
       digits = sym (ap (λ x. x.ok) decoded) ∙ h2
 
-      -- without a row: the third question, or the fourth where the kind inside is not there
-      no_kind : r.bytes ≡ 0 → holds ≡ true → record { number = 3; places = lent } ≡ answer_of line lent
+      pub third : r.bytes ≡ 0 → record { number = 3; filled = 0; places = lent } ≡ outcome_of line lent
       unfolding answer_of
-      no_kind z h =
-          refused _ lent (ask 1 (length_fits_of (length line)) ∷ ask 2 (all_digits_of line) ∷ ask 4 holds ∷ []) 3 _
-          (h1, (digits, (h, tt))) (rw (← row_is, z)) (λ e. omega arith)
-
-      no_inside : holds ≡ false → record { number = 4; places = lent } ≡ answer_of line lent
-      unfolding answer_of
-      no_inside h =
-          refused _ lent (ask 1 (length_fits_of (length line)) ∷ ask 2 (all_digits_of line) ∷ []) 4 _ (h1, (digits, tt)) h
+      third z =
+          numbered 3
+          (refused _ lent (ask 1 (length_fits_of (length line)) ∷ ask 2 (all_digits_of line) ∷ []) 3 _ (h1, (digits, tt))
+          (rw (← row_is, z)) (λ e. omega arith))
           (λ e. omega arith)
-
-      pub third : r.bytes ≡ 0 → {n : ℕ} → n ≡ cond (holds_kind (byte_at bytes 0) (length line / 2)) 3 4
-          → record { number = n; filled = 0; places = lent } ≡ outcome_of line lent
-      third z e =
-          ap (λ (m : ℕ). record { number = m; filled = 0; places = lent })
-          (e
-          ∙ ap (λ (f : Frame). cond (holds_kind (f 0) (length line / 2)) 3 4) frame_is
-          ∙ ap (λ (k : ℕ). cond (holds_kind (at 0) k) 3 4) (half line))
-          ∙ by holds refl
-        where
-          by : (b : Bool) → holds ≡ b → record { number = cond b 3 4; filled = 0; places = lent } ≡ outcome_of line lent
-          by true h = numbered 3 (no_kind z h) (λ e. omega arith)
-          by false h = numbered 4 (no_inside h) (λ e. omega arith)
 
       module _ (h3 : r.bytes ≡ 0 → ⊥) where
         kind_is : is_kind row ≡ true
         kind_is = rw (← row_is, ne_eqb r.bytes 0 h3)
-
-        holds_is : holds ≡ true
-        holds_is = held (bytes_of line) (λ z. h3 (ap (λ (w : Row). w.bytes) row_is ∙ z))
 
         pub fourth : (length line / 2 ≡ r.bytes → ⊥)
             → record { number = 4; filled = 0; places = lent } ≡ outcome_of line lent
         unfolding answer_of
         fourth d =
             numbered 4
-            (refused _ lent
-            (ask 1 (length_fits_of (length line)) ∷ ask 2 (all_digits_of line) ∷ ask 4 holds ∷ ask 3 (is_kind row) ∷ []) 4 _
-            (h1, (digits, (holds_is, (kind_is, tt))))
+            (refused _ lent (ask 1 (length_fits_of (length line)) ∷ ask 2 (all_digits_of line) ∷ ask 3 (is_kind row) ∷ []) 4 _
+            (h1, (digits, (kind_is, tt)))
             (rw (← row_is, ← half line, ne_eqb (length line / 2) r.bytes d)) (λ e. omega arith))
             (λ e. omega arith)
 
         module _ (h4 : length line / 2 ≡ r.bytes) {n : ℕ} {reply : List ℕ}
             (ea : record { number = n; places = reply } ≡ frame_answer_of r.asks (byte_at bytes) lent) where
           passed : AllYes (line_questions_of line row)
-          passed =
-              (h1, (digits, (holds_is, (kind_is, (rw (← row_is, ← half line, eq-eqb (length line / 2) r.bytes h4), tt)))))
+          passed = (h1, (digits, (kind_is, (rw (← row_is, ← half line, eq-eqb (length line / 2) r.bytes h4), tt))))
 
           -- the frame's answer is the line's
           answer_is : record { number = n; places = reply } ≡ answer_of line lent
@@ -168,7 +143,7 @@ module _ (line lent : List ℕ) where
           answer_is =
               ea
               ∙ rw
-              (row_is, frame_is, ← (sound (at 0) (at 1)).0, past (line_questions_of line row) _ passed)
+              (row_is, frame_is, ← (sound (at 0)).0, past (line_questions_of line row) _ passed)
 
           pub later : (n ≡ 0 → ⊥) → record { number = n; filled = 0; places = reply } ≡ outcome_of line lent
           unfolding outcome_of

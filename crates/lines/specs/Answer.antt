@@ -1,16 +1,16 @@
 -- What the line entry answers: a number, what the lent places hold after it, and how many are filled. Definitions only.
 use Rattle.std.specs.Prelude.{cond, List, ℕ, eqb, length}
 use Rattle.hex_bytes.specs.Hex.{bytes_of}
-use Rattle.line_frame.specs.Frame.{byte_at, row_at}
-use Rattle.line_answers.specs.Asked.{questions}
+use Rattle.line_kinds.specs.Kinds.{row_of}
+use Rattle.line_frame.specs.Frame.{byte_at}
+use Rattle.line_questions.specs.Questions.{questions}
 use Rattle.line_answers.specs.FrameAnswer.{Answer, reply_of, replied_of}
 
--- Of the line's characters and of what the lent places hold: the questions in their order, then what the frame's row
--- asks.
+-- Of the line's characters and of what the lent places hold: the questions in their order, then what byte 0's row asks.
 unfoldable pub answer_of : List ℕ → List ℕ → Answer
 answer_of line lent =
     let at = byte_at (bytes_of line) in
-    replied_of (questions line (length lent)) (reply_of (row_at at).asks at) lent
+    replied_of (questions line (length lent)) (reply_of (row_of (at 0)).asks at) lent
 
 -- and with the count of places that the reply fills: those of its kind, or none after a number
 pub record Outcome : Type 0 where
@@ -23,6 +23,6 @@ outcome_of line lent =
     let answer = answer_of line lent in
     record {
       number = answer.number;
-      filled = cond (eqb answer.number 0) (row_at (byte_at (bytes_of line))).places 0;
+      filled = cond (eqb answer.number 0) (row_of (byte_at (bytes_of line) 0)).places 0;
       places = answer.places;
     }

@@ -1,12 +1,11 @@
 // The line entry: one frame a line, in hexadecimal digits, answered by a reply or by the number of
 // the first question that it fails.
-ghost use Rattle.std.specs.Prelude.{◌≡◌, cond};
-ghost use Rattle.line_questions.specs.Questions.{holds_kind};
+ghost use Rattle.std.specs.Prelude.{◌≡◌};
 ghost use Rattle.lines.specs.Answer.{answer_of, outcome_of};
 
 use hex_bytes::decode;
 use line_answers::reply_to;
-use line_kinds::{FRAME, MOMENT, row_of};
+use line_kinds::{FRAME, row_of};
 use line_questions::length_fits;
 
 // The number, and how many of the lent places the reply fills.
@@ -14,13 +13,6 @@ use line_questions::length_fits;
 pub struct Numbered {
     pub number: u32,
     pub filled: usize,
-}
-
-// Question 3, of a frame of n bytes without a row; but 4 where it is too short to hold the kind inside.
-fn without_row(kind: u8, n: usize) -> u32
-    ensures { result ≡ cond (holds_kind kind n) 3 4 }
-{
-    if (kind == MOMENT) & (n == 1) { 4 } else { 3 }
 }
 
 pub fn answered(request: &[u8], reply: &mut [u8]) -> Numbered
@@ -41,10 +33,10 @@ pub fn answered(request: &[u8], reply: &mut [u8]) -> Numbered
             filled: 0,
         };
     }
-    let row = row_of(frame[0], frame[1]);
+    let row = row_of(frame[0]);
     if row.bytes == 0 {
         return Numbered {
-            number: without_row(frame[0], n / 2),
+            number: 3,
             filled: 0,
         };
     }

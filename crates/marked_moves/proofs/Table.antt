@@ -26,13 +26,11 @@ use Rattle.time_acc0_acc1.specs.TimeAcc0Acc1.{acc0_acc1_rest_applies, acc0_acc1_
 use Rattle.time_acc0_acc1.specs.TimeAcc0Acc1.{acc0_acc1_rest_t1, acc0_acc1_rest_times, acc0_acc1_rest}
 use Rattle.time_acc0_acc1.specs.RestToRest.{rest_to_rest_t1, rest_to_rest_trial}
 use Rattle.step2_attempt.specs.Attempt.{attempt_of, try_of, tried_of}
-use Rattle.at_time.specs.AtTime.{state_at_moment}
 use Rattle.line_kinds.specs.Kinds.{row_of}
 use Rattle.line_frame.specs.Frame.{word_at}
 use Rattle.line_frame.specs.Numbers.{check_numbers_of, move_of, root_answer_of}
-use Rattle.line_reply.specs.Reply.{head_of, rows_of, reply_bytes_of, state_bytes_of}
-use Rattle.line_questions.specs.Questions.{counts_fit_of, counts_suit_of}
-use Rattle.line_answers.specs.Asked.{questions_of}
+use Rattle.line_reply.specs.Reply.{head_of, rows_of, reply_bytes_of}
+use Rattle.line_questions.specs.Questions.{counts_fit_of, counts_suit_of, questions_of}
 use Rattle.line_answers.specs.CheckLine.{checked_of}
 use Rattle.line_answers.specs.ShapeLine.{shape_line_of}
 use Rattle.line_answers.specs.FrameAnswer.{reply_of, replied_of}
@@ -49,6 +47,6 @@ unfolding of_bits to_bits lt le eq neg add sub mul div abs_of integrate_of squar
     acc0_acc1_vel_uddu acc0_acc1_vel_udud_applies acc0_acc1_vel_udud_t1 acc0_acc1_vel_udud_t3 acc0_acc1_vel_udud_times acc0_acc1_vel_udud
     acc0_acc1_rest_applies acc0_acc1_rest_h1 acc0_acc1_rest_h2 acc0_acc1_rest_jf acc0_acc1_rest_t1 acc0_acc1_rest_times acc0_acc1_rest
     rest_to_rest_t1 rest_to_rest_trial timing_of attempt_of try_of tried_of
-    row_of word_at check_numbers_of move_of root_answer_of head_of rows_of reply_bytes_of state_bytes_of counts_fit_of counts_suit_of questions_of
-    checked_of shape_line_of state_at_moment reply_of replied_of answer_of table
+    row_of word_at check_numbers_of move_of root_answer_of head_of rows_of reply_bytes_of counts_fit_of counts_suit_of questions_of
+    checked_of shape_line_of reply_of replied_of answer_of table
 marked_moves = refl

@@ -43,18 +43,12 @@ abbrev #1¼ : Float
 abbrev #7 : Float
 #7 = of_bits binary64 0x401C_0000_0000_0000
 
-abbrev #3½ : Float
-#3½ = of_bits binary64 0x400C_0000_0000_0000
-
 abbrev #2·00000002 : Float
 #2·00000002 = of_bits binary64 0x4000_0000_02AF_31DC
 
--- the f64s after 1e12 and after 7, and -2 ^ -1074
+-- the f64 after 1e12, and -2 ^ -1074
 abbrev after_1e12 : Float
 after_1e12 = of_bits binary64 0x426D_1A94_A200_0001
-
-abbrev after_7 : Float
-after_7 = of_bits binary64 0x401C_0000_0000_0001
 
 abbrev least_negative : Float
 least_negative = of_bits binary64 0x8000_0000_0000_0001
@@ -75,13 +69,6 @@ checked signs label t a0 pf vf v a =
 abbrev moved : (kind : ℕ) (tf pf v a : Float) → Answer
 moved kind tf pf v a =
     answered (kind ∷ numbers_bytes (tf ∷ #0 ∷ #0 ∷ #0 ∷ pf ∷ #0 ∷ #0 ∷ v ∷ neg v ∷ a ∷ neg a ∷ #1 ∷ []))
-
--- Kind 20, from rest in 0 to rest in 8 by kind 01 in 7 seconds: the limits are plus and minus v and 1, j_max is 1; at
--- the moment s.
-abbrev moment : (v s : Float) → Answer
-moment v s =
-    answered
-    (0x20 ∷ 0x01 ∷ numbers_bytes (#7 ∷ #0 ∷ #0 ∷ #0 ∷ #8 ∷ #0 ∷ #0 ∷ v ∷ neg v ∷ #1 ∷ neg #1 ∷ #1 ∷ s ∷ []))
 
 -- document 01's numbers
 abbrev UDDU : ℕ
@@ -135,11 +122,6 @@ times answer = numbers_at (byte_at (bytes_of answer.places)) 4 7
 abbrev acceleration : ℕ → Answer → Float
 acceleration i answer = number_at (byte_at (bytes_of answer.places)) (172 + 8 * i)
 
--- kind 20: position, velocity and acceleration
-abbrev states : Answer → List Float → Bool
-states answer xs =
-    eqb answer.number 0 && all_same (numbers_at (byte_at (bytes_of answer.places)) 0 3) xs
-
 -- ---- the table
 unfoldable pub table : List Bool
 table =
@@ -173,17 +155,6 @@ table =
     -- kind 08, the same move: yes, times 1 1 1 0 1 1 1
     ∷ yes (moved 0x08 #6 #6 #2 #1)
     ∷ all_same (times (moved 0x08 #6 #6 #2 #1)) (#1 ∷ #1 ∷ #1 ∷ #0 ∷ #1 ∷ #1 ∷ #1 ∷ [])
-    -- kind 20, the move of kind 01 above: at 0 and at -0 its start, half way, at 7 its goal; the next f64 gets number 10,
-    -- and the move with v 1.5 number 9
-    ∷ states (moment #2 #0) (#0 ∷ #0 ∷ #0 ∷ [])
-    ∷ states (moment #2 (neg #0)) (#0 ∷ #0 ∷ #0 ∷ [])
-    ∷ states (moment #2 #3½) (#4 ∷ #2 ∷ #0 ∷ [])
-    ∷ states (moment #2 #7) (#8 ∷ #0 ∷ #0 ∷ [])
-    ∷ eqb (moment #2 after_7).number 10
-    ∷ eqb (moment #1½ after_7).number 9
-    -- a line of kind 20 alone gets number 4, with the kind 06 inside number 3
-    ∷ eqb (answered (0x20 ∷ [])).number 4
-    ∷ eqb (answered (0x20 ∷ 0x06 ∷ [])).number 3
     -- root of 2
     ∷ same (sqrt_of #2) (of_bits binary64 0x3FF6_A09E_667F_3BCD)
     -- quartic -3 2 0 0 inserts 0, 1, 2, in this order, and tries them in this order

@@ -1,14 +1,11 @@
-// `check`, the shapes, their quartics and their moments by value, on a stored list of accepted lines, kinds 00 to 07 of
-// document 01 and 08, 11 to 15 and 20 of document 02: the reply of each. The list is made by oracle/lists.sh, seed 1:
-// its lists kind00, shapes, causes, rest and moments, one after the other, with the oracle's replies.
-use at_time::{Moment, at_time};
+// `check`, the shapes and their quartics by value, on a stored list of accepted lines, kinds 00 to 07 of document 01
+// and 08 and 11 to 15 of document 02: the reply of each. The list is made by oracle/lists.sh, seed 1: its lists kind00,
+// shapes, causes and rest, one after the other, with the oracle's replies.
 use hex_bytes::decode;
 use labels::{label, signs};
-use line_frame::{
-    CheckNumbers, check_numbers, first_answer, inside, moment, move_numbers, second_answer,
-};
-use line_kinds::{Asks, CAUSES, FRAME, LINE, QUARTICS, RECORD, STATE, row_of};
-use line_reply::{write_causes, write_quartics, write_record, write_state};
+use line_frame::{CheckNumbers, check_numbers, first_answer, move_numbers, second_answer};
+use line_kinds::{Asks, CAUSES, FRAME, LINE, QUARTICS, RECORD, row_of};
+use line_reply::{write_causes, write_quartics, write_record};
 use position_third_step2::{
     time_acc0, time_acc0_acc1, time_acc0_acc1_vel, time_acc0_vel, time_acc1_vel, time_rest_to_rest,
 };
@@ -46,19 +43,6 @@ fn send_quartics(shape: Shape, x: Move) -> bool {
     let mut reply = [0u8; QUARTICS];
     write_quartics(&mut reply, uddu, udud);
     io::write_all(1, &reply)
-}
-
-fn send_state(c: Checked, s: f64) -> bool {
-    let q = c.profile;
-    let moment = at_time(&q.row(), s);
-    match moment {
-        Moment::Outside => false,
-        Moment::At(state) => {
-            let mut reply = [0u8; STATE];
-            write_state(&mut reply, state);
-            io::write_all(1, &reply)
-        }
-    }
 }
 
 fn checked(frame: &[u8; FRAME], x: CheckNumbers) -> Checked {
@@ -104,10 +88,6 @@ fn send_reply(asks: Asks, frame: &[u8; FRAME]) -> bool {
         Asks::OfShape(shape) => send_record(tried(shape, frame)),
         Asks::OfQuartics(shape) => send_quartics(shape, move_numbers(frame).x),
         Asks::OfCauses(shape) => send_causes(tried(shape, frame)),
-        Asks::OfMoment(shape) => {
-            let inner = inside(frame);
-            send_state(tried(shape, &inner), moment(shape, &inner))
-        }
     }
 }
 
@@ -132,24 +112,23 @@ fn read_rest(n: usize, bytes: &mut [u8]) -> bool {
     read_digits(&mut line[..n], bytes)
 }
 
-// Answers one line, and whether there was one. Its first two bytes, the kind and what may be the kind inside, tell how
-// many follow.
+// Answers one line, and whether there was one. The kind comes first and tells how many bytes follow.
 fn answer_line() -> bool {
-    let mut kinds = [0u8; 4];
-    if io::read_full(0, &mut kinds) < 4 {
+    let mut kind = [0u8; 2];
+    if io::read_full(0, &mut kind) < 2 {
         return false;
     }
     let mut frame = [0u8; FRAME];
-    decode(&kinds, &mut frame);
-    let row = row_of(frame[0], frame[1]);
+    decode(&kind, &mut frame);
+    let row = row_of(frame[0]);
     let bytes = row.bytes;
-    if bytes < 2 {
+    if bytes < 1 {
         return false;
     }
     if FRAME < bytes {
         return false;
     }
-    if !read_rest(2 * (bytes - 2), &mut frame[2..]) {
+    if !read_rest(2 * (bytes - 1), &mut frame[1..]) {
         return false;
     }
     let asks = row.asks;

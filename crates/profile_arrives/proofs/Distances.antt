@@ -84,7 +84,7 @@ together K U W M q c d C e f Z m a b l =
     last W q c d C z h = omega arith
 
 -- ---- a difference, times a natural number
-pub nearly : (d : ℕ) (a b : D) (e m : ℕ) → Near a b e → e * d ≤ m → Near (d ⊙ a) (d ⊙ b) m
+nearly : (d : ℕ) (a b : D) (e m : ℕ) → Near a b e → e * d ≤ m → Near (d ⊙ a) (d ⊙ b) m
 nearly d a b e m h l = weaken (d ⊙ a) (d ⊙ b) d e m (near_times d a b e h) l
   where
     weaken : (a b : D) (d e m : ℕ) → Near a b (d * e) → e * d ≤ m → Near a b m

@@ -1,7 +1,6 @@
 -- From a yes of `check` to the theorem that an accepted move arrives, lowest first.
 pub mod Steps
 pub mod Yes
-pub mod Ends
 pub mod NanTimes
 pub mod Facts
 pub mod Distances

@@ -68,7 +68,7 @@ kept_on : {X : Type 0} (b : Bool) (x : X) (y : Step X) → (cond b (no! x) y).ok
 kept_on true x y h = absurd (true≢false (sym h))
 kept_on false x y h = (refl, h)
 
-pub times_yes : (t s : List Float) → (sums_of t s).ok ≡ true → (i : ℕ) → i < 7 → lt (get_or t i nan) #0 ≡ false
+times_yes : (t s : List Float) → (sums_of t s).ok ≡ true → (i : ℕ) → i < 7 → lt (get_or t i nan) #0 ≡ false
 unfolding sums_of step_of_sums
 times_yes t s h zero l = (kept_on (lt (get_or t 0 nan) #0) s (run (step_of_sums t) 6 0 (set s 0 (get_or t 0 nan))) h).0
 times_yes t s h (suc i) l =

@@ -19,10 +19,6 @@ time q i = get_or q.t i nan
 abbrev pub jerk : Profile → ℕ → Float
 jerk q i = get_or q.j i nan
 
--- the recorded end of phase i
-abbrev pub ends : Profile → ℕ → Float
-ends q i = get_or q.t_sum i nan
-
 -- the recorded acceleration, velocity and position at which phase i begins, and phase i - 1 ends
 abbrev pub node : Profile → ℕ → Node
 node q i = record { a = get_or q.a i nan; v = get_or q.v i nan; p = get_or q.p i nan }

@@ -104,7 +104,7 @@ by_finite P h (fin s m e) (inf t) f g k l = absurd l
 by_finite P h (fin s m e) (fin t n d) f g k l = h s m e t n d f g
 
 -- `lt`, `le` and `eq` of finite floats
-pub lt_less : (x y : Float) → T (fits binary64 x) → T (fits binary64 y) → Finite x → Finite y → T (lt x y)
+lt_less : (x y : Float) → T (fits binary64 x) → T (fits binary64 y) → Finite x → Finite y → T (lt x y)
     → Less (val x) (val y)
 lt_less = by_finite (λ (x y : Float). T (lt x y) → Less (val x) (val y)) fin_less
 

@@ -36,12 +36,6 @@ off-sum {S} {a} {b} {c} {d} {β} {γ} o w =
     bounded : (e f P β γ S : ℕ) → e * P ≤ β * S → f * P ≤ γ * S → (e + f) * P ≤ (β + γ) * S
     bounded e f P β γ S h k = omega arith
 
-pub off_trans : {S : ℕ} {a b c : D} {β γ : ℕ} → Off S a b β → Off S b c γ → Off S a c (β + γ)
-off_trans {S} {a} {b} {c} o w = off_as a c (off-sum o w) (through a b c)
-  where
-    through : (a b c : D) → Same (a ⊞ b ⊟ (b ⊞ c)) (a ⊟ c)
-    through a b c = omega arith
-
 pub off-neg : {S : ℕ} {a b : D} {β : ℕ} → Off S a b β → Off S (opposite a) (opposite b) β
 off-neg {S} {a} {b} o = record { err = o.err; near = turned a b o.err o.near; bound = o.bound }
   where

@@ -1,5 +1,4 @@
--- The laws of rounding, lowest first: exact numbers, one operation, the calculus of errors, one phase, seven phases, a
--- moment in them.
+-- The laws of rounding, lowest first: exact numbers, one operation, the calculus of errors, one phase, seven phases.
 pub mod Linear
 pub mod Unit
 pub mod Rounding
@@ -13,16 +12,8 @@ pub mod Negations
 pub mod Sums
 pub mod Products
 pub mod Quotients
-pub mod Forwards
 pub mod Parts
 pub mod Limits
 pub mod Phase
 pub mod Run
-pub mod LastStep
-pub mod Times
-pub mod Ends
-pub mod Lapse
-pub mod Moments
-pub mod Elapsed
-pub mod Seen
 pub mod Worked

@@ -248,7 +248,7 @@ mul_rounds (fin s m e) (fin t n d) f g h =
     (squares a b (mag (fin s m e)) (mag (fin t n d)) (down d) (down e) unit (mag-exact s m e f) (mag-exact t n d g))
     (round_error (a * b) c (mul-pos (down_pos e) (down_pos d))))
 
-pub div_is : (s t : Bool) (m n : ℕ) (e d : ℤ)
+div_is : (s t : Bool) (m n : ℕ) (e d : ℤ)
     → div binary64 (fin s m e) (fin t (suc n) d)
     ≡ round binary64 (unlike s t) (m * up e * down d) (suc n * up d * down e)
 unfolding div

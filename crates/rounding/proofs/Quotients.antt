@@ -41,17 +41,17 @@ quotient_off S x j R c f g l s k =
         gather U S R c = omega arith
 
 -- ---- by a literal c
-pub literal_size : (y : Float) (c : ℕ) → val y ≡ signed false (c * unit) → mag y ≡ c * unit
-literal_size y c e = sym (mag_sum y) ∙ ap (λ (z : D). z.p + z.n) e ∙ add-zero (c * unit)
-
 module _ {x : Float} {R K : ℕ} {X : D} {β : ℕ} (y : Float) (c Q γ : ℕ) (a : On unit x R K X β)
     (e : val y ≡ signed false (c * unit)) (g : Number y) where
+  size_of : mag y ≡ c * unit
+  size_of = sym (mag_sum y) ∙ ap (λ (z : D). z.p + z.n) e ∙ add-zero (c * unit)
+
   -- c times the quotient is the dividend, rounded
   times-back : Finite (x ⊘ y) → Off unit (c ⊙ val (x ⊘ y)) (val x) (R + c)
   times-back k =
       off_cancel unit unit-pos
       (off_as (unit ⊙ (c ⊙ val (x ⊘ y))) (unit ⊙ val x)
-      (quotient_off unit x y R c a.about.held g (le_of_eq (literal_size y c e)) (a.size (div-finite x y k)) k)
+      (quotient_off unit x y R c a.about.held g (le_of_eq size_of) (a.size (div-finite x y k)) k)
       (subst (λ (z : D). Same (val (x ⊘ y) ⊠ z ⊟ unit ⊙ val x) (unit ⊙ (c ⊙ val (x ⊘ y)) ⊟ unit ⊙ val x)) (sym e)
       (regroup (val (x ⊘ y)) (unit ⊙ val x) c unit)))
     where

@@ -5,11 +5,11 @@ use mathlib.Core.Logic.{◌⊎◌, inl, inr}
 use Prim.Native.Nat.{ℕ, zero, suc, ◌+◌, ◌-◌, ◌*◌, ◌/◌, ◌%◌, ◌^◌, ◌≤◌, ◌<◌, compare, Ordering}
 use native.Mathlib.Nat.{le_trans, le_of_eq, zero-lt-suc, mul_comm, mul_assoc, mul_left_comm, mul-one, mul-pos}
 use native.Mathlib.Nat.{mul-le-mul_right, le-div_iff_mul-le, div-add-mod', mod-lt, mul-div_cancel}
-use native.Mathlib.Nat.{le_of_mul-le-mul_right, lt_of_le_of_lt, mul-le-mul_left, mul-lt-mul_of_pos_right}
+use native.Mathlib.Nat.{le_of_mul-le-mul_right}
 use native.Mathlib.Omega.{arith}
 use mathlib.Core.Bool.{Bool, true, false, not, cond}
-use lib.Dec.{T, is_le, compare_is_eq, ltb, ltb→lt, nltb→le, leb→le, nleb→lt, eqb→eq, lit<}
-use lib.Pow.{pow-add, pow_pos, pow-lt}
+use lib.Dec.{T, is_le, compare_is_eq, ltb, ltb→lt, nltb→le, leb→le, nleb→lt, eqb→eq}
+use lib.Pow.{pow-add, pow_pos}
 use lib.Ieee.{Float, nan, inf, fin, Format, binary64, prec, low, up, down, size, nearest, odd, units, round}
 use lib.Ieee.Digits.{Equals, odd_val, size_reaches}
 use lib.Ieee.Nearest.{closest, nearest-ge}
@@ -21,7 +21,7 @@ use Rattle.rounding.specs.Exact.{D, signed, Near, Size, Same}
 use Rattle.rounding.specs.Value.{unit, mag, sign, val, Finite}
 use Rattle.rounding.specs.Bounds.{Rounds}
 use Rattle.rounding.proofs.Linear.{apart}
-use Rattle.rounding.proofs.Unit.{unit_is, unit-pos}
+use Rattle.rounding.proofs.Unit.{unit_is}
 
 -- ---- the nearest whole number is within a half
 lower : (q r n u : ℕ) → q * u + r ≡ n → r * 2 ≤ u → (q * u * 2 ≤ n * 2 + u) × (n * 2 ≤ q * u * 2 + u)
@@ -42,17 +42,17 @@ even q r n u (suc (suc b)) s h l k = absurd (two_less b k)
 parity : (q : ℕ) → q % 2 < 2
 parity q = omega arith
 
-abbrev half_off_lem : ℕ → ℕ → ℕ → Type 0
-half_off_lem c n u = (c * u * 2 ≤ n * 2 + u) × (n * 2 ≤ c * u * 2 + u)
+abbrev half_off : ℕ → ℕ → ℕ → Type 0
+half_off c n u = (c * u * 2 ≤ n * 2 + u) × (n * 2 ≤ c * u * 2 + u)
 
-closest_half : (n u : ℕ) → 0 < u → half_off_lem (closest n u) n u
+closest_half : (n u : ℕ) → 0 < u → half_off (closest n u) n u
 closest_half n u h = go (compare (n % u * 2) u) (leb→le (n % u * 2) u) (nleb→lt (n % u * 2) u) (eqb→eq (n % u * 2) u)
   where
     weaker : (a b : ℕ) → a < b → a ≤ b
     weaker a b l = omega arith
 
     go : (o : Ordering) → (T (is_le o) → n % u * 2 ≤ u) → (T (not (is_le o)) → u < n % u * 2)
-        → (T (compare_is_eq o) → n % u * 2 ≡ u) → half_off_lem (nearest (n / u) o) n u
+        → (T (compare_is_eq o) → n % u * 2 ≡ u) → half_off (nearest (n / u) o) n u
     go Ordering.lt a b c = lower (n / u) (n % u) n u (div-add-mod' n u) (a tt)
     go Ordering.eq a b c = even (n / u) (n % u) n u (n / u % 2) (div-add-mod' n u) (c tt) (mod-lt n h) (parity (n / u))
     go Ordering.gt a b c = upper (n / u) (n % u) n u (div-add-mod' n u) (weaker u (n % u * 2) (b tt)) (mod-lt n h)
@@ -64,7 +64,7 @@ pub record Grid (H n d g : ℕ) : Type 0 where
   pub off : (g * d ≡ n + e) ⊎ (n ≡ g * d + e)
   pub small : (e * 2 ≤ d) ⊎ ((e * (2 * H) ≤ n) × (e * (2 * H) ≤ g * d))
 
-half_of : (c n u e : ℕ) → half_off_lem c n u → (c * u ≡ n + e) ⊎ (n ≡ c * u + e) → e * 2 ≤ u
+half_of : (c n u e : ℕ) → half_off c n u → (c * u ≡ n + e) ⊎ (n ≡ c * u + e) → e * 2 ≤ u
 half_of c n u e h (inl k) = over (c * u) n u e h.0 k
   where
     over : (x n u e : ℕ) → x * 2 ≤ n * 2 + u → x ≡ n + e → e * 2 ≤ u
@@ -302,12 +302,12 @@ infinite_top f s t q k = go (ltb (q * 2 ^ k) (overflow f)) (nltb→le (q * 2 ^ k
     not_odd (fin u m b) h e = absurd (subst (λ (z : Float). T (finite z)) e tt)
 
     odd-finite : (d q k l : ℕ) → Finite (odd d s q k l)
-    odd-finite d q k l = finite_of (odd d s q k l) (q * 2 ^ k) (2 ^ l) (odd_val d s q k l)
+    odd-finite d q k l = finite-of (odd d s q k l) (q * 2 ^ k) (2 ^ l) (odd_val d s q k l)
       where
-        finite_of : (x : Float) (a c : ℕ) → Equals x a c → Finite x
-        finite_of nan a c h = h
-        finite_of (inf u) a c h = h
-        finite_of (fin u m b) a c h = tt
+        finite-of : (x : Float) (a c : ℕ) → Equals x a c → Finite x
+        finite-of nan a c h = h
+        finite-of (inf u) a c h = h
+        finite-of (fin u m b) a c h = tt
 
     sign_is : {u v : Bool} → inf u ≡ inf v → u ≡ v
     sign_is e = cc
@@ -340,50 +340,12 @@ round_error a c C =
     subst (λ (z : ℕ). Grid (2 ^ 52) (a * unit) c (kept 53 (a * z) c * 2 ^ drop 53 (a * z) c)) unit_is
     (grid_error 52 (a * unit) c C)
 
--- from 2 ^ 1024 on it is an infinity
-top_is : 2 ^ 1024 * unit ≡ overflow binary64
-top_is = ap (λ (z : ℕ). 2 ^ 1024 * z) unit_is ∙ mul_comm (2 ^ 1024) (2 ^ 1074) ∙ sym (pow-add 2 1074 1024)
-
 pub round_infinite : (s t : Bool) (a c : ℕ) → round binary64 s a c ≡ inf t → (s ≡ t) × (2 ^ 1024 * unit ≤ result a c)
 unfolding result
 round_infinite s t a c e =
     let h = infinite_top binary64 s t (kept 53 (a * 2 ^ low binary64) c) (drop 53 (a * 2 ^ low binary64) c)
     (sym (round_is binary64 s a c) ∙ e) in
     (h.0, le_trans (le_of_eq top_is) h.1)
-
--- and below it is finite
-round-below : (s : Bool) (a c : ℕ) → result a c < 2 ^ 1024 * unit → Finite (round binary64 s a c)
-unfolding result
-round-below s a c h =
-    let q = kept 53 (a * 2 ^ low binary64) c in
-    let k = drop 53 (a * 2 ^ low binary64) c in
-    subst (λ (z : Float). Finite z) (sym (round_is binary64 s a c))
-    (finite_of (units binary64 s q k) (q * 2 ^ k)
-    (units_val binary64 s q k (subst (λ (z : ℕ). q * 2 ^ k < z) top_is h)))
   where
-    finite_of : (x : Float) (g : ℕ) → HasValue x s g (2 ^ low binary64) → Finite x
-    finite_of nan g h = h
-    finite_of (inf t) g h = h
-    finite_of (fin t m e) g h = tt
-
--- a fraction of R at most is rounded to 2 * R + 1 at most
-grown : (H R U n c g : ℕ) → 0 < H → 0 < U → n ≤ R * c * U → Grid H n c g → g * c ≤ (2 * R + 1) * U * c
-grown H R U n c g Z u h w = go w.e w.off w.small
-  where
-    go : (e : ℕ) → (g * c ≡ n + e) ⊎ (n ≡ g * c + e) → (e * 2 ≤ c) ⊎ ((e * (2 * H) ≤ n) × (e * (2 * H) ≤ g * c))
-        → g * c ≤ (2 * R + 1) * U * c
-    go e (inl a) (inl b) = omega (arith, mul-le-mul_right c u)
-    go e (inl a) (inr b) = omega (arith, mul-le-mul_left e Z)
-    go e (inr a) b = omega arith
-
-pub round-finite : (s : Bool) (a c R : ℕ) → 0 < c → a ≤ R * c → R ≤ 2 ^ 53 → Finite (round binary64 s a c)
-round-finite s a c R C h l =
-    round-below s a c
-    (lt_of_le_of_lt
-    (le_of_mul-le-mul_right
-    (grown (2 ^ 52) R unit (a * unit) c (result a c) (pow_pos 52) unit-pos (mul-le-mul_right unit h)
-    (round_error a c C)) C)
-    (mul-lt-mul_of_pos_right (lt_of_le_of_lt (few R l) (pow-lt {i = 55} {j = 1024} (lit< tt))) unit-pos))
-  where
-    few : (R : ℕ) → R ≤ 2 ^ 53 → 2 * R + 1 ≤ 2 ^ 55
-    few R h = omega arith
+    top_is : 2 ^ 1024 * unit ≡ overflow binary64
+    top_is = ap (λ (z : ℕ). 2 ^ 1024 * z) unit_is ∙ mul_comm (2 ^ 1024) (2 ^ 1074) ∙ sym (pow-add 2 1074 1024)

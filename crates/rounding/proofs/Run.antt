@@ -8,7 +8,7 @@ use native.Mathlib.Nat.{zero-lt-suc, mul_comm, mul_assoc, mul_left_comm, mul-add
 use native.Mathlib.Nat.{mul-le-mul_left, mul-le-mul}
 use native.Mathlib.Omega.{arith}
 use mathlib.Core.Bool.{false}
-use lib.Dec.{T, le→leb, lit≤}
+use lib.Dec.{T, le→leb}
 use lib.Arith.{le-zero}
 use lib.Ieee.{Float, binary64, fits}
 use lib.Ieee.Fits.{add-fits}
@@ -24,44 +24,43 @@ use Rattle.rounding.proofs.Linear.{near_self, near_trans, size-sum, size-times, 
 use Rattle.rounding.proofs.Linear.{size_divide}
 use Rattle.rounding.proofs.Unit.{unit-pos}
 use Rattle.rounding.proofs.Compare.{val-size}
-use Rattle.rounding.proofs.Sizes.{mag_sized}
 use Rattle.rounding.proofs.Limits.{val-above}
 use Rattle.rounding.proofs.Errors.{off-size}
-use Rattle.rounding.proofs.Phase.{AllFinite, step-finite, Stepped, Sizes, Steady, step_a, step_v, step_p}
-use Rattle.rounding.proofs.Phase.{Beside, phase-near}
+use Rattle.rounding.proofs.Phase.{AllFinite, step-finite, Sizes, Steady, step_a, step_v, step_p, Beside}
+use Rattle.rounding.proofs.Phase.{phase-near}
 
 -- ---- what is carried from node to node
 -- the float x is recorded for the exact X, of size s at most, K times as large; 2 ^ 53 times its error is b at most
-pub record Kept (K : ℕ) (x : Float) (X : D) (b s : ℕ) : Type 0 where
-  pub held : lib.Dec.T (fits binary64 x)
-  pub err : ℕ
-  pub near : Near (K ⊙ val x) X err
-  pub bound : err * 2 ^ 53 ≤ b
-  pub size : Size X s
+record Kept (K : ℕ) (x : Float) (X : D) (b s : ℕ) : Type 0 where
+  held : lib.Dec.T (fits binary64 x)
+  err : ℕ
+  near : Near (K ⊙ val x) X err
+  bound : err * 2 ^ 53 ≤ b
+  size : Size X s
 
 -- the errors i phases and T units of time after the start, and the exact sizes
-abbrev pub err_a : ℕ → ℕ → ℕ
+abbrev err_a : ℕ → ℕ → ℕ
 err_a r i = (1547 * i + r) * (unit * unit)
 
-abbrev pub err_v : ℕ → ℕ → ℕ → ℕ
+abbrev err_v : ℕ → ℕ → ℕ → ℕ
 err_v r i T = 2 * ((off_a r + 1292) * (unit * unit * T) + 16635 * (i * (unit * unit * unit)))
 
-abbrev pub err_p : ℕ → ℕ → ℕ → ℕ
+abbrev err_p : ℕ → ℕ → ℕ → ℕ
 err_p r i T = 6 * ((off_v r + 4 * off_a r + 15987) * (unit * unit * unit * T) + 144635 * (i * (unit * unit * unit * unit)))
 
-abbrev pub size_a : ℕ → ℕ → ℕ
+abbrev size_a : ℕ → ℕ → ℕ
 size_a U T = 8 * (U * U) + 64 * (U * T)
 
-abbrev pub size_v : ℕ → ℕ → ℕ
+abbrev size_v : ℕ → ℕ → ℕ
 size_v U T = 2 * (8 * (U * U * U) + 520 * (U * U * T))
 
-abbrev pub size_p : ℕ → ℕ → ℕ
+abbrev size_p : ℕ → ℕ → ℕ
 size_p U T = 6 * (8 * (U * U * U * U) + 4168 * (U * U * U * T))
 
-pub record Track (r i T : ℕ) (n : Node) (m : Moving) : Type 0 where
-  pub a : Kept per_a n.a m.a (err_a r i) (size_a unit T)
-  pub v : Kept per_v n.v m.v (err_v r i T) (size_v unit T)
-  pub p : Kept per_p n.p m.p (err_p r i T) (size_p unit T)
+record Track (r i T : ℕ) (n : Node) (m : Moving) : Type 0 where
+  a : Kept per_a n.a m.a (err_a r i) (size_a unit T)
+  v : Kept per_v n.v m.v (err_v r i T) (size_v unit T)
+  p : Kept per_p n.p m.p (err_p r i T) (size_p unit T)
 
 -- ---- the sizes of the exact states: x + t y, where y is c at most
 grows : (x t y : D) (τ s c : ℕ) → Size x s → Size t τ → Size y c → Size (x ⊞ t ⊠ y) (s + τ * c)
@@ -121,30 +120,20 @@ more_a U P i r e n a b = go (U * U) P i r e n a b
     go : (x P i r e n : ℕ) → e * P ≤ (1547 * i + r) * x → n * P ≤ 1547 * x → (n + e) * P ≤ (1547 * suc i + r) * x
     go x P i r e n a b = omega arith
 
--- one step's own error is c for its time and d besides; b is what was there before
-pub next_v : (U P τ α a v n b c d : ℕ) → a * P ≤ α * (U * U) → v * P ≤ b
-    → n * P ≤ 2 * (c * (U * U * τ) + d * (U * U * U))
-    → (n + (v + τ * (2 * a))) * P ≤ b + 2 * ((α + c) * (U * U * τ) + d * (U * U * U))
-next_v U P τ α a v n b c d ba bv bn =
-    go (U * U * τ) (U * U * U) P τ α a v n b c d
-    (le_trans (mul-le-mul_left τ ba) (le_of_eq (simp (mul_assoc, mul_comm, mul_left_comm)))) bv bn
-  where
-    go : (x y P τ α a v n b c d : ℕ) → τ * (a * P) ≤ α * x → v * P ≤ b → n * P ≤ 2 * (c * x + d * y)
-        → (n + (v + τ * (2 * a))) * P ≤ b + 2 * ((α + c) * x + d * y)
-    go x y P τ α a v n b c d ba bv bn = omega arith
-
 more_v : (U P T τ i α a v n : ℕ) → a * P ≤ α * (U * U)
     → v * P ≤ 2 * ((α + 1292) * (U * U * T) + 16635 * (i * (U * U * U)))
     → n * P ≤ 2 * (1292 * (U * U * τ) + 16635 * (U * U * U))
     → (n + (v + τ * (2 * a))) * P ≤ 2 * ((α + 1292) * (U * U * (T + τ)) + 16635 * (suc i * (U * U * U)))
 more_v U P T τ i α a v n ba bv bn =
-    le_trans
-    (next_v U P τ α a v n (2 * ((α + 1292) * (U * U * T) + 16635 * (i * (U * U * U)))) 1292 16635 ba bv bn)
-    (go (U * U * T) (U * U * τ) (U * U * (T + τ)) (U * U * U) i (α + 1292) (mul-add (U * U) T τ))
+    subst (λ (z : ℕ). (n + (v + τ * (2 * a))) * P ≤ 2 * ((α + 1292) * z + 16635 * (suc i * (U * U * U))))
+    (sym (mul-add (U * U) T τ))
+    (go (U * U * T) (U * U * τ) (U * U * U) P τ i α a v n
+    (le_trans (mul-le-mul_left τ ba) (le_of_eq (simp (mul_assoc, mul_comm, mul_left_comm)))) bv bn)
   where
-    go : (w x z y i β : ℕ) → z ≡ w + x
-        → 2 * (β * w + 16635 * (i * y)) + 2 * (β * x + 16635 * y) ≤ 2 * (β * z + 16635 * (suc i * y))
-    go w x z y i β e = omega (arith, ap (λ (k : ℕ). β * k) e)
+    go : (w x y P τ i α a v n : ℕ) → τ * (a * P) ≤ α * x → v * P ≤ 2 * ((α + 1292) * w + 16635 * (i * y))
+        → n * P ≤ 2 * (1292 * x + 16635 * y)
+        → (n + (v + τ * (2 * a))) * P ≤ 2 * ((α + 1292) * (w + x) + 16635 * (suc i * y))
+    go w x y P τ i α a v n ba bv bn = omega arith
 
 -- v's error at any time up to 8 seconds
 most_v : (U P T i α v : ℕ) → T ≤ 8 * U → i ≤ 7 → v * P ≤ 2 * ((α + 1292) * (U * U * T) + 16635 * (i * (U * U * U)))
@@ -175,41 +164,28 @@ most_a U P i r a l b = le_trans b (mul-le-mul_right (U * U) (go i r l))
     go : (i r : ℕ) → i ≤ 7 → 1547 * i + r ≤ 10829 + r
     go i r l = omega arith
 
--- the time is H at most
-pub next_p : (U P τ H α ν a v p n b c d : ℕ) → τ ≤ H * U → a * P ≤ α * (U * U) → v * P ≤ ν * (2 * (U * U * U))
-    → p * P ≤ b
-    → n * P ≤ 6 * (c * (U * U * U * τ) + d * (U * U * U * U))
-    → (n + (p + τ * (3 * v + τ * (3 * a)))) * P
-    ≤ b + (6 * ((ν + c) * (U * U * U * τ) + d * (U * U * U * U)) + 3 * (H * (α * (U * U * U * τ))))
-next_p U P τ H α ν a v p n b c d l ba bv bp bn =
-    le_trans (le_of_eq (spread n p τ v a P))
-    (go (U * U * U * τ) (U * U * U * U) (n * P) (p * P) (τ * (v * P)) (τ * τ * (a * P)) H α ν b c d
-    (le_trans (mul-le-mul_left τ bv) (le_of_eq (simp (mul_assoc, mul_comm, mul_left_comm))))
-    (le_trans (mul-le-mul (mul-le-mul_left τ l) ba) (le_of_eq (simp (mul_assoc, mul_comm, mul_left_comm)))) bp bn)
-  where
-    spread : (n p τ v a P : ℕ)
-        → (n + (p + τ * (3 * v + τ * (3 * a)))) * P ≡ n * P + (p * P + (3 * (τ * (v * P)) + 3 * (τ * τ * (a * P))))
-    spread n p τ v a P = omega arith
-
-    go : (x y n p v a H α ν b c d : ℕ) → v ≤ 2 * (ν * x) → a ≤ H * (α * x) → p ≤ b → n ≤ 6 * (c * x + d * y)
-        → n + (p + (3 * v + 3 * a)) ≤ b + (6 * ((ν + c) * x + d * y) + 3 * (H * (α * x)))
-    go x y n p v a H α ν b c d hv ha hp hn = omega arith
-
 more_p : (U P T τ i α ν a v p n : ℕ) → τ ≤ 8 * U → a * P ≤ α * (U * U) → v * P ≤ ν * (2 * (U * U * U))
     → p * P ≤ 6 * ((ν + 4 * α + 15987) * (U * U * U * T) + 144635 * (i * (U * U * U * U)))
     → n * P ≤ 6 * (15987 * (U * U * U * τ) + 144635 * (U * U * U * U))
     → (n + (p + τ * (3 * v + τ * (3 * a)))) * P
     ≤ 6 * ((ν + 4 * α + 15987) * (U * U * U * (T + τ)) + 144635 * (suc i * (U * U * U * U)))
 more_p U P T τ i α ν a v p n l ba bv bp bn =
-    le_trans
-    (next_p U P τ 8 α ν a v p n (6 * ((ν + 4 * α + 15987) * (U * U * U * T) + 144635 * (i * (U * U * U * U)))) 15987
-    144635 l ba bv bp bn)
-    (go (U * U * U * T) (U * U * U * τ) (U * U * U * (T + τ)) (U * U * U * U) i α ν (mul-add (U * U * U) T τ))
+    subst
+    (λ (z : ℕ). (n + (p + τ * (3 * v + τ * (3 * a)))) * P
+    ≤ 6 * ((ν + 4 * α + 15987) * z + 144635 * (suc i * (U * U * U * U)))) (sym (mul-add (U * U * U) T τ))
+    (le_trans (le_of_eq (spread n p τ v a P))
+    (go (U * U * U * T) (U * U * U * τ) (U * U * U * U) (n * P) (p * P) (τ * (v * P)) (τ * τ * (a * P)) i α ν
+    (le_trans (mul-le-mul_left τ bv) (le_of_eq (simp (mul_assoc, mul_comm, mul_left_comm))))
+    (le_trans (mul-le-mul (mul-le-mul_left τ l) ba) (le_of_eq (simp (mul_assoc, mul_comm, mul_left_comm)))) bp bn))
   where
-    go : (w x z y i α ν : ℕ) → z ≡ w + x
-        → 6 * ((ν + 4 * α + 15987) * w + 144635 * (i * y)) + (6 * ((ν + 15987) * x + 144635 * y) + 3 * (8 * (α * x)))
-        ≤ 6 * ((ν + 4 * α + 15987) * z + 144635 * (suc i * y))
-    go w x z y i α ν e = omega (arith, ap (λ (k : ℕ). (ν + 4 * α + 15987) * k) e)
+    spread : (n p τ v a P : ℕ)
+        → (n + (p + τ * (3 * v + τ * (3 * a)))) * P ≡ n * P + (p * P + (3 * (τ * (v * P)) + 3 * (τ * τ * (a * P))))
+    spread n p τ v a P = omega arith
+
+    go : (w x y n p v a i α ν : ℕ) → v ≤ 2 * (ν * x) → a ≤ 8 * (α * x)
+        → p ≤ 6 * ((ν + 4 * α + 15987) * w + 144635 * (i * y)) → n ≤ 6 * (15987 * x + 144635 * y)
+        → n + (p + (3 * v + 3 * a)) ≤ 6 * ((ν + 4 * α + 15987) * (w + x) + 144635 * (suc i * y))
+    go w x y n p v a i α ν hv ha hp hn = omega arith
 
 -- ---- at a node: the errors at their largest, and the sizes of the recorded numbers
 -- K is not 0, the exact number is S at most, and its error one at most
@@ -229,10 +205,10 @@ module _ (r i T : ℕ) (s : Node) (m : Moving) (R : r ≤ 2 ^ 40) (I : i ≤ 7) 
   few : (r : ℕ) → r ≤ 2 ^ 40 → (off_a r ≤ 2 ^ 53) × (off_v r ≤ 2 ^ 53) × (off_p r ≤ 2 ^ 53)
   few r h = omega arith
 
-  pub worst_a : k.a.err * 2 ^ 53 ≤ off_a r * (unit * unit)
+  worst_a : k.a.err * 2 ^ 53 ≤ off_a r * (unit * unit)
   worst_a = most_a unit (2 ^ 53) i r k.a.err I k.a.bound
 
-  pub worst_v : k.v.err * 2 ^ 53 ≤ off_v r * (2 * (unit * unit * unit))
+  worst_v : k.v.err * 2 ^ 53 ≤ off_v r * (2 * (unit * unit * unit))
   worst_v = most_v unit (2 ^ 53) T i (off_a r) k.v.err E I k.v.bound
 
   worst_p : k.p.err * 2 ^ 53 ≤ off_p r * (6 * (unit * unit * unit * unit))
@@ -288,14 +264,6 @@ step_fits t j n = (
   add-fits binary64 n.p (t ⊗ (n.v ⊕ t ⊗ (n.a ⊘ #2 ⊕ t ⊗ j ⊘ #6))),
 )
 
--- the exact step from the numbers recorded, and from the exact state
-pub carried : {r i T : ℕ} {s : Node} {m : Moving} (t j : Float) (k : Track r i T s m)
-    → Beside (phase (val t) (val j) (from s)) (phase (val t) (val j) m) k.a.err
-    (k.v.err + mag t * (2 * k.a.err)) (k.p.err + mag t * (3 * k.v.err + mag t * (3 * k.a.err)))
-carried {s = s} {m} t j k =
-    phase-near (val t) (val j) (from s) m (mag t) k.a.err k.v.err k.p.err (val-size t)
-    (record { a_near = k.a.near; v_near = k.v.near; p_near = k.p.near })
-
 module _ (r i T : ℕ) (t j : Float) (s e : Node) (m : Moving) (R : r ≤ 2 ^ 40) (I : i < 7) (E : T + mag t ≤ 8 * unit)
     (ft : lib.Dec.T (fits binary64 t)) (fj : lib.Dec.T (fits binary64 j)) (sj : Size (val j) (64 * unit))
     (k : Track r i T s m) (all : AllFinite t j s) where
@@ -308,11 +276,14 @@ module _ (r i T : ℕ) (t j : Float) (s e : Node) (m : Moving) (R : r ≤ 2 ^ 40
   short : mag t ≤ 8 * unit
   short = (bounds T (mag t) (8 * unit) E).1
 
-  steady : Steady 8 t j s
+  steady : Steady t j s
   steady =
       record {
-        short = lit≤ tt;
-        of_t = mag_sized 8 (record { held = ft; finite = all.t_finite }) short;
+        of_t = record {
+          held = ft;
+          finite = all.t_finite;
+          size = size_weaken (val t) (mag t) (8 * unit) (val-size t) short;
+        };
         of_j = record { held = fj; finite = all.j_finite; size = sj };
         of_n = sizes r i T s m R (le_of_lt I) before k all.a_finite all.v_finite all.p_finite;
       }
@@ -320,28 +291,32 @@ module _ (r i T : ℕ) (t j : Float) (s e : Node) (m : Moving) (R : r ≤ 2 ^ 40
   abbrev moved : Moving
   moved = phase (val t) (val j) m
 
+  carried : Beside (phase (val t) (val j) (from s)) moved k.a.err (k.v.err + mag t * (2 * k.a.err))
+      (k.p.err + mag t * (3 * k.v.err + mag t * (3 * k.a.err)))
+  carried =
+      phase-near (val t) (val j) (from s) m (mag t) k.a.err k.v.err k.p.err (val-size t)
+      (record { a_near = k.a.near; v_near = k.v.near; p_near = k.p.near })
+
   -- what one step is off, and what is carried over
-  stepped : {K : ℕ} {x y : Float} {X Z : D} {b c s f : ℕ} → y ≡ x → lib.Dec.T (fits binary64 x)
-      → (w : Stepped x K Z b) → Near Z X f → (w.err + f) * 2 ^ 53 ≤ c → Size X s → Kept K y X c s
-  stepped {K} {x} {y} {X} {Z} {b} {c} {s} {f} q h w n l z =
+  stepped : (K : ℕ) (x y : Float) (X Z : D) (b c s f : ℕ) → y ≡ x → lib.Dec.T (fits binary64 x)
+      → (w : (g : ℕ) × Near (K ⊙ val x) Z g × (g * 2 ^ 53 ≤ b)) → Near Z X f
+      → (w.0 + f) * 2 ^ 53 ≤ c → Size X s → Kept K y X c s
+  stepped K x y X Z b c s f q h w n l z =
       subst (λ (u : Float). Kept K u X c s) (sym q)
-      (record {
-        held = h;
-        err = w.err + f;
-        near = near_trans (K ⊙ val x) Z X w.err f w.near n;
-        bound = l;
-        size = z;
-      })
+      (record { held = h; err = w.0 + f; near = near_trans (K ⊙ val x) Z X w.0 f w.1 n; bound = l; size = z })
 
   -- the new acceleration, stepped or replaced
-  new_a : (e.a ≡ (step_of t j s).a) ⊎ Replaced r e.a moved.a
+  new_a : (e.a ≡ (step_of t j s).a) ⊎ Replaced r e.a moved.a → Finite e.a
       → Kept per_a e.a moved.a (err_a r (suc i)) (size_a unit (T + mag t))
-  new_a (inl q) =
-      let w = step_a t j s steady in
-      stepped q (step_fits t j s).0 w (carried t j k).a_near
-      (more_a unit (2 ^ 53) i r k.a.err w.err k.a.bound w.bound)
-      (bigger_a (val t) (val j) unit T (mag t) E (val-size t) sj m k.a.size k.v.size k.p.size)
-  new_a (inr q) =
+  new_a (inl q) f =
+      let w = step_a t j s steady (subst (λ (z : Float). Finite z) q f) in
+      stepped per_a (step_of t j s).a e.a moved.a (phase (val t) (val j) (from s)).a (1547 * (unit * unit))
+      (err_a r (suc i)) (size_a unit (T + mag t)) k.a.err q (step_fits t j s).0 w carried.a_near
+      (more_a unit (2 ^ 53) i r k.a.err w.0 k.a.bound w.2) bigger
+    where
+      bigger : Size moved.a (size_a unit (T + mag t))
+      bigger = bigger_a (val t) (val j) unit T (mag t) E (val-size t) sj m k.a.size k.v.size k.p.size
+  new_a (inr q) f =
       record {
         held = q.held;
         err = q.err;
@@ -353,22 +328,29 @@ module _ (r i T : ℕ) (t j : Float) (s e : Node) (m : Moving) (R : r ≤ 2 ^ 40
       above : (i r : ℕ) → r ≤ 1547 * suc i + r
       above i r = omega arith
 
-  step : Next r t j s e moved → Track r (suc i) (T + mag t) e moved
-  step n =
-      let wv = step_v t j s steady in
-      let wp = step_p t j s steady in
+  step : Next r t j s e moved → Finite e.a → Finite e.v → Finite e.p → Track r (suc i) (T + mag t) e moved
+  step n fa fv fp =
+      let wv = step_v t j s steady (subst (λ (z : Float). Finite z) n.velocity fv) in
+      let wp = step_p t j s steady (subst (λ (z : Float). Finite z) n.position fp) in
       let ba = worst_a r i T s m R (le_of_lt I) before k in
       let bv = worst_v r i T s m R (le_of_lt I) before k in
       record {
-        a = new_a n.acceleration;
+        a = new_a n.acceleration fa;
         v =
-            stepped n.velocity (step_fits t j s).1 wv (carried t j k).v_near
-            (more_v unit (2 ^ 53) T (mag t) i (off_a r) k.a.err k.v.err wv.err ba k.v.bound wv.bound)
+            stepped per_v (step_of t j s).v e.v moved.v (phase (val t) (val j) (from s)).v
+            (2 * (1292 * (unit * unit * mag t) + 16635 * (unit * unit * unit))) (err_v r (suc i) (T + mag t))
+            (size_v unit (T + mag t)) (k.v.err + mag t * (2 * k.a.err)) n.velocity (step_fits t j s).1 wv
+            carried.v_near
+            (more_v unit (2 ^ 53) T (mag t) i (off_a r) k.a.err k.v.err wv.0 ba k.v.bound wv.2)
             (bigger_v (val t) (val j) unit T (mag t) E (val-size t) sj m k.a.size k.v.size k.p.size);
         p =
-            stepped n.position (step_fits t j s).2 wp (carried t j k).p_near
-            (more_p unit (2 ^ 53) T (mag t) i (off_a r) (off_v r) k.a.err k.v.err k.p.err wp.err short ba
-            bv k.p.bound wp.bound)
+            stepped per_p (step_of t j s).p e.p moved.p (phase (val t) (val j) (from s)).p
+            (6 * (15987 * (unit * unit * unit * mag t) + 144635 * (unit * unit * unit * unit)))
+            (err_p r (suc i) (T + mag t)) (size_p unit (T + mag t))
+            (k.p.err + mag t * (3 * k.v.err + mag t * (3 * k.a.err))) n.position (step_fits t j s).2 wp
+            carried.p_near
+            (more_p unit (2 ^ 53) T (mag t) i (off_a r) (off_v r) k.a.err k.v.err k.p.err wp.0 short ba bv
+            k.p.bound wp.2)
             (bigger_p (val t) (val j) unit T (mag t) E (val-size t) sj m k.a.size k.v.size k.p.size);
       }
 
@@ -422,7 +404,7 @@ module _ (t j : ℕ → Float) (n : ℕ → Node) where
       here = step-finite (t k) (j k) (n k) (subst (λ (z : Float). Finite z) (h k (le_refl (suc k))) f)
 
 -- ---- the run
-pub elapsed_mono : (t : ℕ → Float) (i k : ℕ) → i ≤ k → elapsed t i ≤ elapsed t k
+elapsed_mono : (t : ℕ → Float) (i k : ℕ) → i ≤ k → elapsed t i ≤ elapsed t k
 unfolding elapsed
 elapsed_mono t i zero h = le_of_eq (ap (λ (z : ℕ). elapsed t z) (le-zero h))
 elapsed_mono t i (suc k) h = pick (eq-or-lt_of_le h) (elapsed_mono t i k)
@@ -451,10 +433,10 @@ lasts-elapsed t (suc k) h =
 
 module _ {r : ℕ} {t j : ℕ → Float} {n : ℕ → Node} (z : Run r t j n) where
   -- every time, jerk and recorded number before the end is finite
-  pub run-finite : (i : ℕ) → i < 7 → AllFinite (t i) (j i) (n i)
+  run-finite : (i : ℕ) → i < 7 → AllFinite (t i) (j i) (n i)
   run-finite = all_finite_lem t j n 7 (λ (i : ℕ) (l : i < 7). (z.steps i l).position) z.last_p
 
-  pub node-finite : (i : ℕ) → i ≤ 7 → Finite (n i).a × Finite (n i).v × Finite (n i).p
+  node-finite : (i : ℕ) → i ≤ 7 → Finite (n i).a × Finite (n i).v × Finite (n i).p
   node-finite i l =
       elim (eq-or-lt_of_le l) [
         | inl e ↦ subst (λ (k : ℕ). Finite (n k).a × Finite (n k).v × Finite (n k).p) (sym e)
@@ -462,16 +444,17 @@ module _ {r : ℕ} {t j : ℕ → Float} {n : ℕ → Node} (z : Run r t j n) wh
         | inr q ↦ ((run-finite i q).a_finite, (run-finite i q).v_finite, (run-finite i q).p_finite)
       ]
 
-  pub in_time : (i : ℕ) → i ≤ 7 → elapsed t i ≤ 8 * unit
+  in_time : (i : ℕ) → i ≤ 7 → elapsed t i ≤ 8 * unit
   in_time i l = le_trans (elapsed_mono t i 7 l) z.total
 
-  pub track : (i : ℕ) → i ≤ 7 → Track r i (elapsed t i) (n i) (motion t j (from (n 0)) i)
+  track : (i : ℕ) → i ≤ 7 → Track r i (elapsed t i) (n i) (motion t j (from (n 0)) i)
   unfolding motion elapsed
   track zero l = start z
   track (suc i) l =
+      let f = node-finite (suc i) l in
       step r i (elapsed t i) (t i) (j i) (n i) (n (suc i)) (motion t j (from (n 0)) i) z.small l (in_time (suc i) l)
       (z.held_t i l) (z.held_j i l) (z.jerks i l)
-      (track i (le_of_lt l)) (run-finite i l) (z.steps i l)
+      (track i (le_of_lt l)) (run-finite i l) (z.steps i l) f.0 f.1 f.2
 
   pub recorded_sizes : (i : ℕ) → i ≤ 7 → Sizes (n i)
   recorded_sizes i l =

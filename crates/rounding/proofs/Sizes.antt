@@ -6,11 +6,10 @@ use native.Mathlib.Omega.{arith}
 use lib.Dec.{T, leb, leb→le, lit≤}
 use lib.Ieee.{Float, binary64, fits}
 use Rattle.rounding.specs.Exact.{D, Size, Same, ◌⊟◌, ◌⊙◌}
-use Rattle.rounding.specs.Value.{unit, mag, val, Finite, Number}
+use Rattle.rounding.specs.Value.{unit, val, Finite}
 use Rattle.rounding.specs.Bounds.{Off, Sized, About, On}
 use Rattle.rounding.proofs.Linear.{size_weaken}
 use Rattle.rounding.proofs.Unit.{unit_large}
-use Rattle.rounding.proofs.Compare.{val-size}
 use Rattle.rounding.proofs.Errors.{off-none, off_as, off_scale, off_once, off-times, off_cancel, off-sym}
 use Rattle.rounding.proofs.Errors.{off-size}
 
@@ -35,11 +34,6 @@ on {S} {x} z = record { about = about S x z.held; size = λ k. z.size }
 
 pub sized : {S : ℕ} {x : Float} {R K : ℕ} {X : D} {β : ℕ} → On S x R K X β → Finite x → Sized S x R
 sized a f = record { held = a.about.held; finite = f; size = a.size f }
-
--- a number of R at most
-pub mag_sized : {x : Float} (R : ℕ) → Number x → mag x ≤ R * unit → Sized unit x R
-mag_sized {x} R a h =
-    record { held = a.held; finite = a.finite; size = size_weaken (val x) (mag x) (R * unit) (val-size x) h }
 
 -- ---- K is 1: the float is X itself
 pub about-off : {S : ℕ} {x : Float} {X : D} {β : ℕ} → About S x 1 X β → Finite x → Off S (val x) X β

@@ -5,4 +5,3 @@ pub mod Bounds
 pub mod Motion
 pub mod Step
 pub mod Run
-pub mod Moment

@@ -51,12 +51,11 @@ use Rattle.step2_quartics.specs.Quartics.{acc1_vel_quartics_of, acc0_vel_quartic
 use Rattle.step2_attempt.specs.Attempt.{attempt_of, try_of, tried_of}
 use Rattle.line_kinds.specs.declared.Asks.TheVariants.{OfShape}
 use Rattle.line_kinds.specs.Kinds.{reply_most, row_of}
-use Rattle.line_frame.specs.Frame.{row_at, word_at}
+use Rattle.line_frame.specs.Frame.{word_at}
 use Rattle.line_frame.specs.Numbers.{move_of, root_answer_of}
 use Rattle.line_questions.specs.Suits.{both_suit_of}
-use Rattle.line_questions.specs.Questions.{counts_fit_of, counts_suit_of}
+use Rattle.line_questions.specs.Questions.{counts_fit_of, counts_suit_of, questions_of}
 use Rattle.line_reply.specs.Reply.{head_of, rows_of, reply_bytes_of}
-use Rattle.line_answers.specs.Asked.{questions_of}
 use Rattle.line_answers.specs.ShapeLine.{shape_line_of}
 use Rattle.line_answers.specs.FrameAnswer.{reply_of, replied_of}
 use Rattle.lines.specs.Answer.{answer_of}
@@ -76,7 +75,7 @@ abbrev by_first : Attempt → List ℕ → Bool
 by_first attempt line = passes line (answer_for line) (trial_in attempt line 0)
 
 abbrev Met : Attempt → List ℕ → Type 0
-Met attempt line = ((row_at (byte_in line)).asks ≡ OfShape (shape_by attempt)) × T (by_first attempt line)
+Met attempt line = ((row_of (byte_in line 0)).asks ≡ OfShape (shape_by attempt)) × T (by_first attempt line)
 
 worked : (attempt : Attempt) (line : List ℕ) → Met attempt line → Worked attempt line
 worked attempt line m =

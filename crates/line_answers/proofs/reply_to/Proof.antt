@@ -1,16 +1,14 @@
 -- `reply_to` is `frame_answer_of`, by what is asked. Assumes nothing.
-use mathlib.Core.Path.{refl, ◌∙◌}
+use mathlib.Core.Path.{refl}
 use mathlib.Core.List.{[], ◌∷◌}
 use Prim.Native.Nat.{zero-le}
 use lib.Dec.{leb}
 use lib.ListN.{length}
 use borrow.Author.Tests.{le-leb}
 use borrow.Author.Rules.{rules}
-use Rattle.line_questions.specs.Questions.{ask}
-use Rattle.line_answers.specs.Asked.{questions_of}
+use Rattle.line_questions.specs.Questions.{ask, questions_of}
 use Rattle.line_answers.specs.FrameAnswer.{reply_of, frame_answer_of}
 use Rattle.line_answers.proofs.Replies.{replied}
-use Rattle.line_answers.proofs.Moves.{record_is, quartics_is, causes_is}
 use Rattle.line_answers.proofs.reply_to.Statement.{statement}
 use Rattle.line_answers.proofs.reply_to.Tie as tie
 
@@ -29,27 +27,22 @@ returns-2 c =
 returns-3 : tie.Need-returns-3
 returns-3 c =
     let k = c.before.before in
-    rw k.before.before.before.asks.given.1 (k.shape-line.ensures ∙ record_is _ _ _)
+    rw k.before.before.before.asks.given.1 k.shape-line.ensures
 
 returns-4 : tie.Need-returns-4
 returns-4 c =
     let k = c.before.before in
-    rw k.before.before.before.asks2.given.1 (k.shape-line2.ensures ∙ quartics_is _ _ _ _)
+    rw k.before.before.before.asks2.given.1 k.shape-line2.ensures
 
 returns-5 : tie.Need-returns-5
 returns-5 c =
     let k = c.before.before in
-    rw k.before.before.before.asks3.given.1 (k.shape-line3.ensures ∙ causes_is _ _ _)
-
-returns-6 : tie.Need-returns-6
-returns-6 c =
-    let k = c.before.before in
-    rw k.before.before.before.asks4.given.1 k.moment-line.ensures
+    rw k.before.before.before.asks3.given.1 k.shape-line3.ensures
 
 pub reply-to-spec : {M : Type 1} → statement M
 reply-to-spec =
     tie.close
     (tie.spec (λ c. search rules) (λ c. search rules) (λ c κs. search rules) (λ c. search rules)
     (λ c κs. search rules) (λ c. search rules) (λ c κs. search rules) (λ c. search rules) (λ c κs. search rules)
-    (λ c. search rules) (λ c κs. search rules) returns (λ c. search rules) returns-2 (λ c. search rules) returns-3
-    (λ c. search rules) returns-4 (λ c. search rules) returns-5 (λ c. search rules) returns-6)
+    returns (λ c. search rules) returns-2 (λ c. search rules) returns-3 (λ c. search rules) returns-4
+    (λ c. search rules) returns-5)

@@ -34,10 +34,9 @@ returns-2 c =
 
 returns-3 : tie.Need-returns-3
 returns-3 c =
-    let t = c.before in let r = t.before.before in let i2 = r.before in let d = i2.before.before in
-    let i = d.before.before in
+    let r = c.before.before in let i2 = r.before in let d = i2.before.before in let i = d.before.before in
     third (line i) (lent i) (fits i) d.decode.ensures (not-false d.decode.result i2.if2.false)
-    r.row_of.ensures t.if3.true c.without-row.ensures
+    r.row_of.ensures c.if3.true
 
 returns-4 : tie.Need-returns-4
 returns-4 c =
@@ -63,6 +62,5 @@ returns-6 c =
 pub answered-spec : {M : Type 1} → statement M
 answered-spec =
     tie.close
-    (tie.spec (λ c κs. tt) returns (λ c. search rules) (λ c κs. tt) returns-2 (λ c. search rules) (λ c. search rules)
-    (λ c κs. tt) (λ c. search rules) (λ c κs. tt) returns-3 returns-4 (λ c κs. tt) (λ c. search rules) returns-5
-    (λ c. search rules) returns-6)
+    (tie.spec (λ c κs. tt) returns (λ c. search rules) (λ c κs. tt) returns-2 (λ c. search rules) (λ c κs. tt)
+    returns-3 returns-4 (λ c κs. tt) (λ c. search rules) returns-5 (λ c. search rules) returns-6)

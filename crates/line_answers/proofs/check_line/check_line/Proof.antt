@@ -13,10 +13,9 @@ use Rattle.line_frame.specs.declared.CheckNumbers.{CheckNumbers}
 use Rattle.line_frame.specs.Frame.{Frame, byte_at}
 use Rattle.line_frame.specs.Numbers.{check_numbers_of, check_finite}
 use Rattle.line_frame.proofs.Finite.{check_read, check_unread}
-use Rattle.line_questions.specs.Questions.{ask, choices_fit_of}
+use Rattle.line_questions.specs.Questions.{ask, choices_fit_of, questions_of}
 use Rattle.line_reply.specs.Reply.{reply_bytes_of, written_of}
 use Rattle.line_answers.specs.CheckLine.{checked_of}
-use Rattle.line_answers.specs.Asked.{questions_of}
 use Rattle.line_answers.specs.FrameAnswer.{reply_of, frame_answer_of}
 use Rattle.line_reply.proofs.Written.{filled}
 use Rattle.line_answers.proofs.Replies.{refused, replied}

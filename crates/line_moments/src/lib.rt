@@ -1,1 +1,0 @@
-// Theorems only: what a line of kind 20 shows of the move of the line inside it.
