@@ -1,4 +1,5 @@
 // Numbers and bytes in hexadecimal digits, as the stored lists have them.
+#![tactic(auto)]
 ghost use Rattle.std.specs.Prelude.{◌≡◌, [], ◌∷◌};
 ghost use Rattle.hex_bytes.specs.Hex.{is_digit_of, hex_of};
 ghost use Rattle.number_bytes.specs.Bytes.{number_bytes_of};
@@ -9,7 +10,7 @@ use hex_bytes::{encode, value};
 use number_bytes::to_be_bytes;
 
 // A number, and whether it stood there.
-#[derive(Drop)]
+#[derive(Clone, Copy)]
 pub struct Read {
     pub ok: bool,
     pub x: f64,

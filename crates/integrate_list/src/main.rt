@@ -1,10 +1,11 @@
 // `integrate` on a stored list: t p0 v0 a0 j a line in, p v a out.
 // The list is made by oracle/lists.sh, seed 1, with what the Rust's `integrate` answers.
+#![tactic(auto)]
 use digits::{from_digits, to_digits};
 use util::{State, integrate};
 
 // A state, and whether a line asked for it.
-#[derive(Drop)]
+#[derive(Clone, Copy)]
 struct Reply {
     ok: bool,
     state: State,

@@ -1,4 +1,5 @@
 // The sign of the jerk in each phase, and the seven jerks.
+#![tactic(auto)]
 ghost use Rattle.std.specs.Prelude.{◌≡◌};
 ghost use Rattle.labels.specs.Labels.{signs_number_of};
 ghost use Rattle.jerks.specs.Jerks.{pattern_of, signed_of, jerk_of, jerks_of};
@@ -6,7 +7,7 @@ ghost use Rattle.jerks.specs.Jerks.{pattern_of, signed_of, jerk_of, jerks_of};
 use float::pick;
 use labels::ControlSigns;
 
-#[derive(Drop)]
+#[derive(Clone, Copy)]
 pub enum Sign {
     Plus,
     Zero,

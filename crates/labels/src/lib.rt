@@ -1,5 +1,6 @@
 // The labels of a record: which limits a move reaches, its direction and its control signs; as document 01's numbers,
 // and back. With them what the calls of `check` came to: how many there were, and the cause of the last.
+#![tactic(auto)]
 pub mod causes;
 pub mod tests;
 
@@ -9,7 +10,7 @@ ghost use Rattle.labels.specs.Labels.{label_of, signs_of, start_labels_of, marke
 
 use causes::Cause;
 
-#[derive(Drop)]
+#[derive(Clone, Copy)]
 pub enum ReachedLimits {
     Acc0Acc1Vel,
     Vel,
@@ -21,20 +22,20 @@ pub enum ReachedLimits {
     None,
 }
 
-#[derive(Drop)]
+#[derive(Clone, Copy)]
 pub enum Direction {
     UP,
     DOWN,
 }
 
-#[derive(Drop)]
+#[derive(Clone, Copy)]
 pub enum ControlSigns {
     UDDU,
     UDUD,
 }
 
 // With count and cause at the end a line of kinds 01 to 05 takes one to two in a hundred longer.
-#[derive(Drop)]
+#[derive(Clone, Copy)]
 pub struct Labels {
     pub calls: u8,
     pub cause: Cause,

@@ -4,7 +4,7 @@ ghost use Rattle.labels.specs.Tests.{tests_of};
 
 use super::{ReachedLimits, label_number};
 
-#[derive(Drop)]
+#[derive(Clone, Copy)]
 pub struct Tests {
     // t[3], t[1], t[5] below EPS refuses
     pub t3: bool,

@@ -1,4 +1,5 @@
 // The limits that `check` compares with, widened by V_EPS and A_EPS; and its tests at the end, of the goal and limits.
+#![tactic(auto)]
 ghost use Rattle.std.specs.Prelude.{◌≡◌};
 ghost use Rattle.row.specs.Row.{numbers_in};
 ghost use Rattle.labels.specs.Causes.{cause_of};
@@ -40,7 +41,7 @@ const V7: usize = V + 7;
 
 const P7: usize = P + 7;
 
-#[derive(Drop)]
+#[derive(Clone, Copy)]
 pub struct Band {
     pub low: f64,
     pub upp: f64,

@@ -1,4 +1,5 @@
 // The answer to a frame of the length of its kind, by what it asks.
+#![tactic(auto)]
 mod check_line;
 mod shape_line;
 

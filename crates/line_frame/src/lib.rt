@@ -1,4 +1,5 @@
 // A line's frame, zeros after its end: the numbers in it by their names.
+#![tactic(auto)]
 mod reading;
 
 ghost use Rattle.std.specs.Prelude.{◌≡◌, true, ◌+◌, ◌≤◌};
@@ -14,7 +15,7 @@ use roots::{RootAnswer, Three};
 use step2_solver::Move;
 
 // Kind 00's.
-#[derive(Drop)]
+#[derive(Clone, Copy)]
 pub struct CheckNumbers {
     pub t: [f64; 7],
     pub p0: f64,
@@ -31,14 +32,14 @@ pub struct CheckNumbers {
 }
 
 // Whether the eleven numbers after the times are finite, and these with the times; zeros where they are not.
-#[derive(Drop)]
+#[derive(Clone, Copy)]
 pub struct FiniteCheck {
     pub ok: bool,
     pub x: CheckNumbers,
 }
 
 // Whether the twelve numbers of a frame are finite, and the numbers; zeros where they are not.
-#[derive(Drop)]
+#[derive(Clone, Copy)]
 pub struct FiniteMove {
     pub ok: bool,
     pub x: Move,

@@ -1,4 +1,5 @@
 // The kinds of line: one table, which the questions, the replies and the line program read.
+#![tactic(auto)]
 ghost use Rattle.std.specs.Prelude.{◌≡◌};
 ghost use Rattle.line_kinds.specs.Kinds.{takes_roots_of, row_of};
 
@@ -22,7 +23,7 @@ pub const QUARTICS: usize = 228;
 pub const SPREAD: usize = 4;
 
 // What a line asks.
-#[derive(Drop)]
+#[derive(Clone, Copy)]
 pub enum Asks {
     NoKind,
     OfCheck,
@@ -32,7 +33,7 @@ pub enum Asks {
 }
 
 // The bytes of a frame, the places of its reply, and what it asks.
-#[derive(Drop)]
+#[derive(Clone, Copy)]
 pub struct Row {
     pub bytes: usize,
     pub places: usize,

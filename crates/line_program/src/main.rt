@@ -1,5 +1,6 @@
 // The line program: each line of standard input gets its reply, or its refusal in two decimal digits, each ended by a
 // line feed.
+#![tactic(auto)]
 ghost use Rattle.std.specs.Prelude.{length, take};
 ghost use Rattle.io.specs.Counts.{clamp_len};
 ghost use Rattle.line_cut.specs.Stream.{Streams};

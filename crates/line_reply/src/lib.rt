@@ -1,4 +1,5 @@
 // A reply's characters, into lent places.
+#![tactic(auto)]
 mod quartics;
 mod record;
 mod stores;

@@ -1,4 +1,5 @@
 // The line entry's answers to the lines of blocks of characters, in constant memory.
+#![tactic(auto)]
 mod answer;
 
 ghost use Rattle.std.specs.Prelude.{◌≡◌, ◌++◌, ◌+◌, ◌≤◌, length, take};
@@ -19,7 +20,7 @@ pub const ROOM: usize = REPLY + 1;
 
 // How far a call came: the characters of the input that it used, those kept of a line that has begun, and the places of
 // the output that it filled.
-#[derive(Drop)]
+#[derive(Clone, Copy)]
 pub struct Streamed {
     pub used: usize,
     pub count: usize,

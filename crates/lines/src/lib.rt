@@ -1,5 +1,6 @@
 // The line entry: one frame a line, in hexadecimal digits, answered by a reply or by the number of
 // the first question that it fails.
+#![tactic(auto)]
 ghost use Rattle.std.specs.Prelude.{◌≡◌};
 ghost use Rattle.lines.specs.Answer.{answer_of, outcome_of};
 
@@ -9,7 +10,7 @@ use line_kinds::{FRAME, row_of};
 use line_questions::length_fits;
 
 // The number, and how many of the lent places the reply fills.
-#[derive(Drop)]
+#[derive(Clone, Copy)]
 pub struct Numbered {
     pub number: u32,
     pub filled: usize,

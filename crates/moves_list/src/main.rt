@@ -1,6 +1,7 @@
 // `check`, the shapes and their quartics by value, on a stored list of accepted lines, kinds 00 to 07 of document 01
 // and 08 and 11 to 15 of document 02: the reply of each. The list is made by oracle/lists.sh, seed 1: its lists kind00,
 // shapes, causes and rest, one after the other, with the oracle's replies.
+#![tactic(auto)]
 use hex_bytes::decode;
 use labels::{label, signs};
 use line_frame::{CheckNumbers, check_numbers, first_answer, move_numbers, second_answer};

@@ -31,7 +31,7 @@ fn zero_inside(i: usize, v0: f64, a0: f64, a1: f64, j: f64, band: Band) -> bool
 }
 
 // The node after a phase, and whether its test passes.
-#[derive(Drop)]
+#[derive(Clone, Copy)]
 pub struct Next {
     pub ok: bool,
     pub p: f64,

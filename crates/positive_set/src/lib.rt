@@ -1,9 +1,10 @@
 // The set of roots.rs, `PositiveSet`, with four places; the quartic that fills it is in the crate roots.
+#![tactic(auto)]
 ghost use Rattle.std.specs.Prelude.{◌≡◌, [], ◌∷◌};
 ghost use Rattle.positive_set.specs.Set.{held_of, set_of, insert_of, into_of, sorted_of};
 
 // Four places and how many of them are in use, from the first one on.
-#[derive(Drop)]
+#[derive(Clone, Copy)]
 pub struct PositiveSet {
     pub data: [f64; 4],
     pub len: usize,

@@ -14,7 +14,7 @@ use phases::nodes::nodes;
 use phases::times::{refusal, sums};
 use row::{NUMBERS, set_jerks, times};
 
-#[derive(Drop)]
+#[derive(Clone, Copy)]
 pub struct Verdict {
     pub ok: bool,
     pub labels: Labels,

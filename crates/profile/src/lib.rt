@@ -1,5 +1,6 @@
 // profile.rs: the record of a move, and `check`, which adds up seven phase times.
 // Left out of the Rust's `Profile` are `brake` and `accel`, which these functions neither read nor write.
+#![tactic(auto)]
 pub mod in_place;
 mod parts;
 
@@ -21,7 +22,7 @@ use row::{
 // J_EPS
 const J_EPS: f64 = 1e-12;
 
-#[derive(Drop)]
+#[derive(Clone, Copy)]
 pub struct Profile {
     pub t: [f64; 7],
     pub t_sum: [f64; 7],
@@ -40,7 +41,7 @@ pub struct Profile {
 }
 
 // The verdict of a check, with the record as it leaves it.
-#[derive(Drop)]
+#[derive(Clone, Copy)]
 pub struct Checked {
     pub ok: bool,
     pub profile: Profile,

@@ -4,6 +4,7 @@
 // 04, 05 and 06 are 00, 01 and 02 with the mark of a square root that does not exist; `check` itself takes no mark.
 // A record is answered with the count of its calls of `check` and the cause of the last one after it.
 // The list is made by oracle/lists.sh, seed 1, with what the Rust answers.
+#![tactic(auto)]
 use digits::{byte_to_digits, from_digits};
 use float::is_finite;
 use hex_bytes::decode;
@@ -15,7 +16,7 @@ use profile::in_place::Verdict;
 use profile::{Checked, Profile};
 
 // What `check` answers and leaves, and what `check_with_timing` then makes of the record that was left.
-#[derive(Drop)]
+#[derive(Clone, Copy)]
 struct Twice {
     ok: bool,
     left: Profile,

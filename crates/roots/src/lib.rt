@@ -1,5 +1,6 @@
 // The quartic of roots.rs, x^4 + a x^3 + b x^2 + c x + d: its roots that are not negative. The set is in positive_set.
 // Its cube root and the roots of its resolvent are worked out elsewhere and handed in as a `RootAnswer`.
+#![tactic(auto)]
 ghost use Rattle.std.specs.Prelude.{◌≡◌, List, [], ◌≤◌, length, Float};
 ghost use Rattle.positive_set.specs.Set.{set_of, insert_all_of, sorted_of};
 ghost use Rattle.roots.specs.Quartic.{small_of, need_of, need_number_of, resolvent_of, chosen_of, larger_of, factors_of};
@@ -15,7 +16,7 @@ const EPSILON: f64 = 2.220446049250313e-16;
 const EPS_M_BY_16: f64 = 3.552713678800501e-15;
 
 // The resolvent's three arguments or its three values.
-#[derive(Drop)]
+#[derive(Clone, Copy)]
 pub struct Three {
     pub x0: f64,
     pub x1: f64,
@@ -23,14 +24,14 @@ pub struct Three {
 }
 
 // What is handed in: the cube root of c, or what `solve_resolvent` answers, its count and its values.
-#[derive(Drop)]
+#[derive(Clone, Copy)]
 pub enum RootAnswer {
     CubeRoot(f64),
     Resolved(u8, Three),
 }
 
 // What a quartic needs to be handed in.
-#[derive(Drop)]
+#[derive(Clone, Copy)]
 pub enum Need {
     Nothing,
     Cube,
@@ -38,7 +39,7 @@ pub enum Need {
 }
 
 // The quartic as (x^2 + p1 x + q1) (x^2 + p2 x + q2).
-#[derive(Drop)]
+#[derive(Clone, Copy)]
 struct Factors {
     p1: f64,
     q1: f64,

@@ -2,12 +2,13 @@
 // the reply is the need, the resolvent's three arguments, and how many roots there are,
 // with the roots in order of trial.
 // The list is made by oracle/lists.sh, seed 1, with what the Rust's `solve_quart_monic_arr` answers.
+#![tactic(auto)]
 use digits::{byte_to_digits, from_digits, to_digits};
 use positive_set::PositiveSet;
 use roots::{RootAnswer, Three, need_number, quartic_need, resolvent_arguments, sorted_roots};
 
 // What a line asks, and whether it is a line of the list.
-#[derive(Drop)]
+#[derive(Clone, Copy)]
 struct Asked {
     ok: bool,
     answer: RootAnswer,

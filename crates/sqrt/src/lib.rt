@@ -1,4 +1,5 @@
 // The square root of an f64, rounded once to the nearest f64; a number below zero and a NaN have none.
+#![tactic(auto)]
 mod integer;
 mod parts;
 
@@ -8,7 +9,7 @@ ghost use Rattle.sqrt.specs.Sqrt.{square_root_of, f64_of, is_mark_of, sqrt_of};
 use self::parts::root_bits;
 
 // A root, or the mark that the argument is below zero or NaN.
-#[derive(Drop)]
+#[derive(Clone, Copy)]
 pub enum SquareRoot {
     Root(f64),
     Mark,

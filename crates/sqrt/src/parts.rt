@@ -6,7 +6,7 @@ ghost use Rattle.sqrt.specs.Steps.{Digits, RootBits};
 use super::integer::root54;
 
 // 53 digits, and the power of two that they are to be multiplied with; it counts from 2^-1022 of the smallest f64.
-#[derive(Drop)]
+#[derive(Clone, Copy)]
 struct Number {
     q: u64,
     e: u64,

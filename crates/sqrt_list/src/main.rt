@@ -2,6 +2,7 @@
 // Lines 1 to 5000 are made by oracle/lists.sh, seed 1, with the roots of Rust's f64::sqrt. The last 21 are the
 // square roots of real arguments not below zero in CPython's Lib/test/cmath_testcases.txt, with the roots
 // published there (Debian libpython3.11-testsuite 3.11.2-6+deb12u9).
+#![tactic(auto)]
 use digits::{Read, byte_to_digits, from_digits, to_digits};
 use sqrt::{SquareRoot, is_mark, sqrt, to_f64};
 

@@ -1,4 +1,5 @@
 // position_third_step2.rs: the quartics of the two shapes that try the roots of one. They are solved elsewhere.
+#![tactic(auto)]
 mod acc0_vel;
 mod acc1_vel;
 
@@ -9,7 +10,7 @@ ghost use Rattle.step2_quartics.specs.Quartics.{acc0_vel_quartics_of, the_quarti
 use step2_solver::{Limits, PositionThirdOrderStep2, Shape};
 
 // UDDU's quartic and UDUD's, four coefficients each.
-#[derive(Drop)]
+#[derive(Clone, Copy)]
 pub struct Quartics {
     pub uddu: [f64; 4],
     pub udud: [f64; 4],

@@ -3,6 +3,7 @@
 // function of its own, and the times take its value, as they take h1 or jf: but for rounding they add up to tf whatever
 // those are.
 
+#![tactic(auto)]
 ghost use Rattle.std.specs.Prelude.{◌≡◌};
 ghost use Rattle.step2_solver.specs.New.{new_of, solver_of, limits_of};
 ghost use Rattle.step2_solver.specs.Trials.{the_times, the_trial, no_trial_of};
@@ -11,7 +12,7 @@ ghost use Rattle.step2_solver.specs.Window.{outside_of};
 use labels::{ControlSigns, ReachedLimits};
 
 // The twelve numbers of a move, in the order of `new`.
-#[derive(Drop)]
+#[derive(Clone, Copy)]
 pub struct Move {
     pub tf: f64,
     pub p0: f64,
@@ -28,7 +29,7 @@ pub struct Move {
 }
 
 // The limits that every shape is passed.
-#[derive(Drop)]
+#[derive(Clone, Copy)]
 pub struct Limits {
     pub v_max: f64,
     pub v_min: f64,
@@ -38,7 +39,7 @@ pub struct Limits {
 }
 
 // The Rust's five shapes; and the fourth with the t[1] of document 02, Paper 4, from rest to rest.
-#[derive(Drop)]
+#[derive(Clone, Copy)]
 pub enum Shape {
     Acc0Acc1Vel,
     Acc1Vel,
@@ -49,7 +50,7 @@ pub enum Shape {
 }
 
 // The boundary numbers and their powers. The Rust keeps five limits and a flag besides, which these shapes never read.
-#[derive(Drop)]
+#[derive(Clone, Copy)]
 pub struct PositionThirdOrderStep2 {
     pub v0: f64,
     pub a0: f64,
@@ -83,7 +84,7 @@ pub struct PositionThirdOrderStep2 {
 }
 
 // The seven times that an attempt hands to `check`: the Rust's `profile.t`.
-#[derive(Drop)]
+#[derive(Clone, Copy)]
 pub struct Times {
     pub t0: f64,
     pub t1: f64,
@@ -96,7 +97,7 @@ pub struct Times {
 
 // An attempt as data: what is put into the profile, and what `check` is told of it. It is marked where it takes a
 // square root that does not exist.
-#[derive(Drop)]
+#[derive(Clone, Copy)]
 pub struct Trial {
     pub made: bool,
     pub marked: bool,
@@ -163,7 +164,7 @@ pub fn no_trial() -> Trial
 }
 
 // The roots that an attempt takes.
-#[derive(Drop)]
+#[derive(Clone, Copy)]
 pub struct Window {
     pub t_min: f64,
     pub t_max: f64,

@@ -1,9 +1,10 @@
 // util.rs: the state after some time at constant jerk.
+#![tactic(auto)]
 ghost use Rattle.std.specs.Prelude.{◌≡◌};
 ghost use Rattle.util.specs.Integrate.{integrate_of};
 
 // Position, velocity and acceleration: the Rust's tuple.
-#[derive(Drop)]
+#[derive(Clone, Copy)]
 pub struct State {
     pub p: f64,
     pub v: f64,
