@@ -3,8 +3,7 @@ use mathlib.Core.Path.{◌≡◌, refl}
 use Prim.Native.Nat.{ℕ, zero, suc}
 use Rattle.labels.specs.declared.ReachedLimits.TheVariants.{None}
 use Rattle.labels.specs.Labels.{label_of}
-use Rattle.labels.proofs.label.Statement.{statement}
-use Rattle.labels.proofs.label.Tie as tie
+use Rattle.labels.proofs.label.Goals as goal
 
 other : (n : ℕ)
     → (n ≡ 0 → ⊥) → (n ≡ 1 → ⊥) → (n ≡ 2 → ⊥) → (n ≡ 3 → ⊥) → (n ≡ 4 → ⊥) → (n ≡ 5 → ⊥) → (n ≡ 6 → ⊥) → None ≡ label_of n
@@ -18,19 +17,35 @@ other (suc (suc (suc (suc (suc (suc zero)))))) a b c d e f g = absurd (g refl)
 other (suc (suc (suc (suc (suc (suc (suc zero))))))) a b c d e f g = refl
 other (suc (suc (suc (suc (suc (suc (suc (suc n)))))))) a b c d e f g = refl
 
-last : tie.Need-returns-8
-last c =
-    let i6 = c.before in
-    let i5 = i6.before in
-    let i4 = i5.before in
-    let i3 = i4.before in
-    let i2 = i3.before in
-    let i1 = i2.before in
-    other i1.before.args.n
-    i1.if1.false i2.if2.false i3.if3.false i4.if4.false i5.if5.false i6.if6.false c.if7.false
+pub returns-then-n-eq0 : goal.returns-then-n-eq0
+returns-then-n-eq0 c =
+    rw c.if-n-eq0.true
 
-pub label-spec : {M : Type 1} → statement M
-label-spec =
-    tie.close
-    (tie.spec (λ c. rw c.if1.true) (λ c. rw c.if2.true) (λ c. rw c.if3.true)
-    (λ c. rw c.if4.true) (λ c. rw c.if5.true) (λ c. rw c.if6.true) (λ c. rw c.if7.true) last)
+pub returns-then-n-eq1 : goal.returns-then-n-eq1
+returns-then-n-eq1 c =
+    rw c.if-n-eq1.true
+
+pub returns-then-n-eq2 : goal.returns-then-n-eq2
+returns-then-n-eq2 c =
+    rw c.if-n-eq2.true
+
+pub returns-then-n-eq3 : goal.returns-then-n-eq3
+returns-then-n-eq3 c =
+    rw c.if-n-eq3.true
+
+pub returns-then-n-eq4 : goal.returns-then-n-eq4
+returns-then-n-eq4 c =
+    rw c.if-n-eq4.true
+
+pub returns-then-n-eq5 : goal.returns-then-n-eq5
+returns-then-n-eq5 c =
+    rw c.if-n-eq5.true
+
+pub returns-then-n-eq6 : goal.returns-then-n-eq6
+returns-then-n-eq6 c =
+    rw c.if-n-eq6.true
+
+pub returns : goal.returns
+returns c =
+    other c.args.n
+    c.if-n-eq0.false c.if-n-eq1.false c.if-n-eq2.false c.if-n-eq3.false c.if-n-eq4.false c.if-n-eq5.false c.if-n-eq6.false

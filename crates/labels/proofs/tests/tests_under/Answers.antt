@@ -4,13 +4,11 @@ use mathlib.Core.Bool.{Bool, true, false}
 use mathlib.Core.List.{List, [], ◌∷◌}
 use mathlib.Core.Path.{◌≡◌, refl}
 use lib.ListN.{get_or}
-use borrow.Author.Rules.{rules}
 use Rattle.labels.specs.declared.tests.Tests.{Tests}
 use Rattle.labels.specs.Labels.{label_number_of}
 use Rattle.labels.specs.Tests.{tests_of}
 use Rattle.labels.proofs.ByLabel.{by_label}
-use Rattle.labels.proofs.tests.tests_under.Statement.{statement}
-use Rattle.labels.proofs.tests.tests_under.Tie as tie
+use Rattle.labels.proofs.tests.tests_under.Goals as goal
 
 abbrev row : Bool → Bool → Bool → Bool → Bool → Bool → Tests
 row t3 t1 t5 a3 set-a3 set-a1-a5 =
@@ -34,14 +32,9 @@ table =
     ∷ none
     ∷ []
 
-returns : tie.Need-returns
+pub returns : goal.returns
 unfolding tests_of
 returns c =
-    rw c.before.label-number.ensures
+    rw c.label_number.ensures
     (by_label (λ l. get_or table (label_number_of l % 8) none ≡ tests_of l) refl refl refl refl refl refl refl refl
-    c.before.before.args.limits)
-
-pub tests-under-spec : {M : Type 1} → statement M
-tests-under-spec =
-    tie.close
-    (tie.spec (λ c κs. search rules) (λ c. search rules) (λ c. search rules) (λ c. search rules) returns)
+    c.args.limits)
