@@ -3,12 +3,8 @@
 use Rattle.float.specs.Ops.{◌⊗◌}
 use Rattle.float.proofs.Halving.{halving}
 use Rattle.util.specs.Integrate.{integrate_of}
-use Rattle.util.proofs.integrate.Statement.{statement}
-use Rattle.util.proofs.integrate.Tie as tie
+use Rattle.util.proofs.integrate.Goals as goal
 
-returns : tie.Need-returns
+pub returns : goal.returns
 unfolding integrate_of
 returns c = rw (halving c.args.a0, halving (c.args.t ⊗ c.args.j))
-
-pub integrate-spec : {M : Type 1} → statement M
-integrate-spec = tie.close (tie.spec returns)
