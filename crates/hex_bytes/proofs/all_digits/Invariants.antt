@@ -10,7 +10,8 @@ use Rattle.hex_bytes.proofs.all_digits.Given as goal
 
 abbrev pub invariant-loop-k : goal.invariant-loop-k
 invariant-loop-k l =
-    (l.k ≤ length l.line) × ((leb l.less_48 22 && leb l.less_65 248) && all_digits_of (drop l.k l.line) ≡ all_digits_of l.line)
+    (l.k ≤ length l.line)
+    × ((leb l.less_48 22 && leb l.less_65 248) && all_digits_of (drop l.k l.line) ≡ all_digits_of l.line)
 
 abbrev pub decreases-loop-k : goal.decreases-loop-k
 decreases-loop-k l = length l.line - l.k

@@ -9,15 +9,19 @@ halves : (d : ℕ) → d ≡ d % 0x100 + d / 0x100 * 0x100
 halves d = omega arith
 
 pub overflow_sub-both : goal.overflow_sub-both
-overflow_sub-both c = let d = c.args.digits in from_0 d (d % 0x100) (d / 0x100) (halves d) c.requires.digits_value c.requires.digits_value_2
+overflow_sub-both c = let d = c.args.digits in
+    from_0 d (d % 0x100) (d / 0x100) (halves d) c.requires.digits_value c.requires.digits_value_2
 
 pub overflow_add-result : goal.overflow_add-result
 overflow_add-result c =
-    let d = c.args.digits in omega (arith, small d (d % 0x100) (d / 0x100) (halves d) c.requires.digits_value c.requires.digits_value_2)
+    let d = c.args.digits in
+    omega (arith, small d (d % 0x100) (d / 0x100) (halves d) c.requires.digits_value c.requires.digits_value_2)
 
 pub overflow_cast-result : goal.overflow_cast-result
 overflow_cast-result c =
-    let d = c.args.digits in omega (arith, small d (d % 0x100) (d / 0x100) (halves d) c.requires.digits_value c.requires.digits_value_2)
+    let d = c.args.digits in
+    omega (arith, small d (d % 0x100) (d / 0x100) (halves d) c.requires.digits_value c.requires.digits_value_2)
 
 pub returns : goal.returns
-returns c = let d = c.args.digits in byte_is d (d % 0x100) (d / 0x100) (halves d) c.requires.digits_value c.requires.digits_value_2
+returns c = let d = c.args.digits in
+    byte_is d (d % 0x100) (d / 0x100) (halves d) c.requires.digits_value c.requires.digits_value_2

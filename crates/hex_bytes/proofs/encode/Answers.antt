@@ -8,7 +8,11 @@ returns-then-reply-n c = none_encoded c.args.bytes.now c.args.reply.now c.if-rep
 
 pub spell-requires : goal.spell-requires
 spell-requires c =
-    rw c.nibbles.ensures record { n_in_bounds = enough c.args.bytes.now c.args.reply.now c.if-reply-n.false; by_index = small c.args.bytes.now c.args.reply.now c.if-reply-n.false (λ x. (c.shared_slice_known-1.given x).fits) }
+    rw c.nibbles.ensures record {
+      n_in_bounds = enough c.args.bytes.now c.args.reply.now c.if-reply-n.false;
+      by_index =
+          small c.args.bytes.now c.args.reply.now c.if-reply-n.false (λ x. (c.shared_slice_known-1.given x).fits);
+    }
 
 pub returns : goal.returns
 returns c =

@@ -13,7 +13,8 @@ invariant-loop-k l =
     (l.k ≤ l.n)
     × (length l.reply ≡ length l.initial.reply)
     × (drop l.k l.reply ≡ drop l.k l.initial.reply)
-    × (sets l.reply l.k (map digit_of (slice l.k l.n l.initial.reply)) ≡ sets l.initial.reply 0 (map digit_of (take l.n l.initial.reply)))
+    × (sets l.reply l.k (map digit_of (slice l.k l.n l.initial.reply))
+    ≡ sets l.initial.reply 0 (map digit_of (take l.n l.initial.reply)))
 
 abbrev pub decreases-loop-k : goal.decreases-loop-k
 decreases-loop-k l = l.n - l.k
