@@ -47,7 +47,8 @@ module _ (b : ℕ) (h : b < 256) where
 pub all_digits : (bytes : List ℕ) → ((i : ℕ) → get_or bytes i 0 < 256) → all_digits_of (hex_of bytes) ≡ true
 all_digits [] h = refl
 all_digits (b ∷ bytes) h =
-    rw ((digit_of_lem (b / 16) (high b (h 0))).0, (digit_of_lem (b % 16) (low b (h 0))).0) (all_digits bytes (λ i. h (suc i)))
+    rw ((digit_of_lem (b / 16) (high b (h 0))).0, (digit_of_lem (b % 16) (low b (h 0))).0)
+    (all_digits bytes (λ i. h (suc i)))
 
 pub bytes_back : (bytes : List ℕ) → ((i : ℕ) → get_or bytes i 0 < 256) → bytes_of (hex_of bytes) ≡ bytes
 bytes_back [] h = refl

@@ -12,7 +12,8 @@ use lib.ListN.{get_or-append}
 use lib.Seq.{take_all, drop-cons, drop-drop, drop-set-lt, get_or-drop, take_at, drop_at, slice, slice-cons, slice_empty}
 use lib.Seq.{sets, sets-eq}
 use borrow.Author.Tests.{lt-ltb, le-ltb, ltb-false}
-use Rattle.hex_bytes.specs.Hex.{is_digit_of, all_digits_of, value_of, pairs_of, bytes_of, digit_of, hex_of, fill, decode_of, encode_of}
+use Rattle.hex_bytes.specs.Hex.{is_digit_of, all_digits_of, value_of, pairs_of, bytes_of, digit_of, hex_of, fill}
+use Rattle.hex_bytes.specs.Hex.{decode_of, encode_of}
 use Rattle.hex_bytes.specs.Steps.{nibbles_of}
 use Rattle.hex_bytes.proofs.Digits.{and_left, and_right, or_right}
 use Rattle.hex_bytes.proofs.Pair.{digit_lt}
@@ -22,12 +23,14 @@ module _ (line : List ℕ) (k : ℕ) where
   pub tested : (ok : Bool) → k < length line
       → (ok && is_digit_of (get_or line k 0)) && all_digits_of (drop (k + 1) line) ≡ ok && all_digits_of (drop k line)
   tested ok h =
-      rw (add-one k, drop-cons line k 0 h) (and_assoc ok (is_digit_of (get_or line k 0)) (all_digits_of (drop (suc k) line)))
+      rw (add-one k, drop-cons line k 0 h)
+      (and_assoc ok (is_digit_of (get_or line k 0)) (all_digits_of (drop (suc k) line)))
 
   pub all_tested : (ok : Bool) → length line ≤ k → ok ≡ ok && all_digits_of (drop k line)
   all_tested ok h = rw (drop_of_length-le line h) (sym (and-true ok))
 
-pub each_digit : (line : List ℕ) (k : ℕ) → all_digits_of line ≡ true → k < length line → is_digit_of (get_or line k 0) ≡ true
+pub each_digit : (line : List ℕ) (k : ℕ) → all_digits_of line ≡ true → k < length line
+    → is_digit_of (get_or line k 0) ≡ true
 each_digit [] k h l = absurd (none k l)
   where
     none : (k : ℕ) → k < 0 → ⊥
@@ -111,7 +114,8 @@ length_bytes line = length_pairs (map value_of line) ∙ rw (length-map line val
 pub all_paired : (line bytes : List ℕ) (i : ℕ) → length line / 2 ≤ i
     → bytes ≡ sets bytes i (bytes_of (drop (2 * i) line))
 all_paired line bytes i h =
-    rw (empty (bytes_of (drop (2 * i) line)) (omega (arith, length_bytes (drop (2 * i) line), length-drop (2 * i) line)))
+    rw (empty (bytes_of (drop (2 * i) line))
+    (omega (arith, length_bytes (drop (2 * i) line), length-drop (2 * i) line)))
   where
     empty : (xs : List ℕ) → length xs ≡ 0 → xs ≡ []
     empty [] e = refl

@@ -1,8 +1,10 @@
 // Characters to bytes and back: digits 0-9 and A-F, two a byte, the higher half first.
 // No table: each digit is worked out, so that the loops run on many characters at once.
 #![tactic(auto)]
+
 ghost use Rattle.std.specs.Prelude.{◌≡◌, true, cond, map, ℕ, ◌+◌, ◌*◌, ◌/◌, ◌%◌, ◌≤◌, ◌<◌, ltb, length, get_or, take};
-ghost use Rattle.hex_bytes.specs.Hex.{Filled, is_digit_of, all_digits_of, value_of, bytes_of, digit_of, fill, decode_of, encode_of};
+ghost use Rattle.hex_bytes.specs.Hex.{Filled, is_digit_of, all_digits_of, value_of, bytes_of, digit_of, fill};
+ghost use Rattle.hex_bytes.specs.Hex.{decode_of, encode_of};
 ghost use Rattle.hex_bytes.specs.Steps.{nibbles_of};
 
 // What a digit stands for; 0 for any other character.

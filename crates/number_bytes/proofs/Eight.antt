@@ -11,7 +11,8 @@ use lib.Ieee.Bits.{of_bits-to_bits, to_bits-lt}
 use Rattle.number_bytes.specs.Bytes.{word_of, word_bytes, number_of, number_bytes_of}
 
 pub listed : (xs : List ℕ) → length xs ≡ 8
-    → get_or xs 0 0 ∷ get_or xs 1 0 ∷ get_or xs 2 0 ∷ get_or xs 3 0 ∷ get_or xs 4 0 ∷ get_or xs 5 0 ∷ get_or xs 6 0 ∷ get_or xs 7 0 ∷ []
+    → get_or xs 0 0 ∷ get_or xs 1 0 ∷ get_or xs 2 0 ∷ get_or xs 3 0
+    ∷ get_or xs 4 0 ∷ get_or xs 5 0 ∷ get_or xs 6 0 ∷ get_or xs 7 0 ∷ []
     ≡ xs
 listed (a ∷ b ∷ c ∷ d ∷ e ∷ f ∷ g ∷ h ∷ []) k = refl
 listed [] k = absurd (omega arith)

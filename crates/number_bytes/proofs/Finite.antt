@@ -24,7 +24,8 @@ below : (x : Float) (b : ℕ) → b < 0x1_0000_0000_0000_0000 → b % 0x8000_000
 unfolding is_nan
 below (fin s m e) b h k p = refl
 below nan b h k p =
-    absurd (subst T (ap not (ap is_nan (sym p))) (subst T (ap not (nan_bits_is binary64 b)) (some_bits b (omega arith))))
+    absurd
+    (subst T (ap not (ap is_nan (sym p))) (subst T (ap not (nan_bits_is binary64 b)) (some_bits b (omega arith))))
 below (inf s) b h k p = absurd (at_infinity (to_bits binary64 (inf s)) b (inf_bits s) same k)
   where
     same : to_bits binary64 (inf s) ≡ b

@@ -1,6 +1,7 @@
 // Rust's `u64::from_be_bytes` and `f64::to_be_bytes`: eight bytes, the highest first;
 // and whether bits are those of a finite number.
 #![tactic(auto)]
+
 ghost use Rattle.std.specs.Prelude.{◌≡◌, [], ◌∷◌};
 ghost use Rattle.std.specs.Float.{binary64};
 ghost use Rattle.std.specs.Float.Ieee.{of_bits};

@@ -46,7 +46,8 @@ abbrev err_v : ℕ → ℕ → ℕ → ℕ
 err_v r i T = 2 * ((off_a r + 1292) * (unit * unit * T) + 16635 * (i * (unit * unit * unit)))
 
 abbrev err_p : ℕ → ℕ → ℕ → ℕ
-err_p r i T = 6 * ((off_v r + 4 * off_a r + 15987) * (unit * unit * unit * T) + 144635 * (i * (unit * unit * unit * unit)))
+err_p r i T =
+    6 * ((off_v r + 4 * off_a r + 15987) * (unit * unit * unit * T) + 144635 * (i * (unit * unit * unit * unit)))
 
 abbrev size_a : ℕ → ℕ → ℕ
 size_a U T = 8 * (U * U) + 64 * (U * T)
@@ -388,8 +389,8 @@ start {r} {n = n} z =
 
 -- ---- finite all the way down: a step's position is finite only if all that it came from is
 module _ (t j : ℕ → Float) (n : ℕ → Node) where
-  pub all_finite_lem : (k : ℕ) → ((i : ℕ) → i < k → (n (suc i)).p ≡ (step_of (t i) (j i) (n i)).p) → Finite (n k).p → (i : ℕ)
-      → i < k → AllFinite (t i) (j i) (n i)
+  pub all_finite_lem : (k : ℕ) → ((i : ℕ) → i < k → (n (suc i)).p ≡ (step_of (t i) (j i) (n i)).p) → Finite (n k).p
+      → (i : ℕ) → i < k → AllFinite (t i) (j i) (n i)
   all_finite_lem zero h f i l = absurd (not-suc-le-zero l)
   all_finite_lem (suc k) h f i l =
       elim (eq-or-lt_of_le (le_of_suc-le-suc l)) [

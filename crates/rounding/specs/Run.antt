@@ -20,7 +20,7 @@ off_v r = 8 * (off_a r + 1292) + 116445
 abbrev pub off_p : ℕ → ℕ
 off_p r = 8 * (off_v r + 4 * off_a r + 15987) + 1012445
 
--- The recorded numbers n are within offA r, offV r and offP r times 2 ^ -53 of the exact state m.
+-- The recorded numbers n are within off_a r, off_v r and off_p r times 2 ^ -53 of the exact state m.
 pub record Recorded (r : ℕ) (n : Node) (m : Moving) : Type 0 where
   pub a : Off (per_a * unit) (per_a ⊙ val n.a) m.a (off_a r)
   pub v : Off (per_v * unit) (per_v ⊙ val n.v) m.v (off_v r)
