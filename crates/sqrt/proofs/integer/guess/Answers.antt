@@ -3,8 +3,7 @@ use Prim.Native.Nat.{ℕ, ◌-◌, ◌*◌, ◌/◌, ◌^◌, ◌≤◌}
 use native.Mathlib.Nat.{mul-le-mul}
 use native.Mathlib.Omega.{arith}
 use Rattle.sqrt.specs.Steps.{Radicand}
-use Rattle.sqrt.proofs.integer.guess.Statement.{statement}
-use Rattle.sqrt.proofs.integer.guess.Tie as tie
+use Rattle.sqrt.proofs.integer.guess.Goals as goal
 
 most : (a : ℕ) → Radicand a → a / 0x400_0000 * (1_056_700_000 - a / 0x400_0000) ≤ 2 ^ 28 * 2 ^ 30
 most a h =
@@ -12,8 +11,18 @@ most a h =
     let high : 1_056_700_000 - a / 0x400_0000 ≤ 2 ^ 30 = omega arith in
     mul-le-mul low high
 
-pub guess-spec : {M : Type 1} → statement M
-guess-spec =
-    tie.close
-    (tie.spec (λ c. omega (arith, c.requires)) (λ c. omega (arith, most c.args.a c.requires))
-    (λ c. omega (arith, most c.args.a c.requires)) (λ c. omega (arith, most c.args.a c.requires)))
+pub overflow_sub-result : goal.overflow_sub-result
+overflow_sub-result c =
+    omega (arith, c.requires)
+
+pub overflow_mul-result : goal.overflow_mul-result
+overflow_mul-result c =
+    omega (arith, most c.args.a c.requires)
+
+pub overflow_add-result : goal.overflow_add-result
+overflow_add-result c =
+    omega (arith, most c.args.a c.requires)
+
+pub returns : goal.returns
+returns c =
+    omega (arith, most c.args.a c.requires)
