@@ -1,5 +1,6 @@
 // Numbers and bytes in hexadecimal digits, as the stored lists have them.
 #![tactic(auto)]
+
 ghost use Rattle.std.specs.Prelude.{◌≡◌, [], ◌∷◌};
 ghost use Rattle.hex_bytes.specs.Hex.{is_digit_of, hex_of};
 ghost use Rattle.number_bytes.specs.Bytes.{number_bytes_of};

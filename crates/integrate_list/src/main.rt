@@ -1,7 +1,10 @@
 // `integrate` on a stored list: t p0 v0 a0 j a line in, p v a out.
 // The list is made by oracle/lists.sh, seed 1, with what the Rust's `integrate` answers.
 #![tactic(auto)]
+
 use digits::{from_digits, to_digits};
+use std::io;
+use std::io::{ErrorKind, Read, Write};
 use util::{State, integrate};
 
 // A state, and whether a line asked for it.
@@ -23,27 +26,41 @@ fn answer(line: &[u8; 81]) -> Reply {
     }
 }
 
+// Fills `line`, or says that the input ended before.
+fn read_line(input: &mut impl Read, line: &mut [u8]) -> io::Result<bool> {
+    match input.read_exact(line) {
+        Ok(()) => Ok(true),
+        Err(e) if e.kind() == ErrorKind::UnexpectedEof => Ok(false),
+        Err(e) => Err(e),
+    }
+}
+
 // Answers one line, and whether there was one.
-fn answer_line() -> bool {
+fn answer_line(input: &mut impl Read, output: &mut impl Write) -> io::Result<bool> {
     let mut line = [0u8; 81];
-    if io::read_full(0, &mut line) < 81 {
-        return false;
+    if !read_line(input, &mut line)? {
+        return Ok(false);
     }
     let reply = answer(&line);
     if !reply.ok {
-        return false;
+        return Ok(false);
     }
     let state = reply.state;
-    io::write_all(1, &to_digits(state.p));
-    io::write_all(1, &to_digits(state.v));
-    io::write_all(1, &to_digits(state.a));
-    io::write_all(1, b"\n")
+    output.write_all(&to_digits(state.p))?;
+    output.write_all(&to_digits(state.v))?;
+    output.write_all(&to_digits(state.a))?;
+    output.write_all(b"\n")?;
+    Ok(true)
 }
 
 // The list is shorter than the count of turns, which is there so that the loop is seen to end.
-fn main() {
-    let mut turns = u64::MAX;
-    while turns > 0 && answer_line() {
-        turns -= 1;
+fn main(rt: HostRuntime) -> io::Result<()> {
+    let mut input = rt.stdin();
+    let mut output = rt.stdout();
+    for _ in 0..u64::MAX {
+        if !answer_line(&mut input, &mut output)? {
+            break;
+        }
     }
+    Ok(())
 }

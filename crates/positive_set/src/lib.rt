@@ -1,5 +1,6 @@
 // The set of roots.rs, `PositiveSet`, with four places; the quartic that fills it is in the crate roots.
 #![tactic(auto)]
+
 ghost use Rattle.std.specs.Prelude.{◌≡◌, [], ◌∷◌};
 ghost use Rattle.positive_set.specs.Set.{held_of, set_of, insert_of, into_of, sorted_of};
 

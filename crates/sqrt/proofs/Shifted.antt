@@ -1,7 +1,7 @@
 -- From the bits of a finite number above zero to the bits of its root. The number is m * 2 ^ k units. A subnormal m is
 -- brought up to 53 digits by its leading zeros, and one place more where the power of two that is left is odd;
 -- the root of what that gives, times 2 ^ 54, has 54 digits, and `proofs/Rounded.antt` rounds it. Assumes nothing.
-use mathlib.Core.Path.{◌≡◌, refl, sym, ap, ◌∙◌, subst}
+use mathlib.Core.Path.{◌≡◌, sym, ap, ◌∙◌, subst}
 use Prim.Native.Nat.{ℕ, zero, suc, ◌+◌, ◌-◌, ◌*◌, ◌/◌, ◌%◌, ◌^◌, ◌≤◌, ◌<◌, suc-le-suc}
 use native.Mathlib.Nat.{le_trans, le_of_eq, le_of_lt, lt_of_lt_of_le, lt_of_not-le, not-le_of_lt, le_of_suc-le-suc}
 use native.Mathlib.Nat.{mul_assoc, mul-le-mul_right, mul-one, mod-eq_of_lt}

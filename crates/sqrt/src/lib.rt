@@ -1,5 +1,6 @@
 // The square root of an f64, rounded once to the nearest f64; a number below zero and a NaN have none.
 #![tactic(auto)]
+
 mod integer;
 mod parts;
 

@@ -4,6 +4,7 @@ use Prim.Native.Nat.{◌-◌}
 use mathlib.Core.Path.{refl, ◌∙◌}
 use native.Mathlib.Omega.{arith}
 use borrow.Author.Rules.{rules}
+use borrow.Author.Tests.{not-true, not-false}
 use Rattle.phases.proofs.Runs.{done}
 use Rattle.phases.proofs.Moves.{moved, held, stops, goes}
 use Rattle.phases.proofs.nodes.nodes.Goals as goal
@@ -16,14 +17,14 @@ pub returns-then-not-next : goal.returns-then-not-next
 returns-then-not-next c =
     moved c.args.tests c.args.set_limits c.args.a_max c.args.a_min c.args.band c.args.x.now
     (stops c.args.tests c.args.set_limits c.args.a_max c.args.a_min c.args.band c.loop-i.x c.loop-i.i c.loop-i.invariant.2
-    c.phase-next.ensures c.loop-i-test.true c.if-not-next.true ∙ c.loop-i.invariant.1)
+    c.phase-next.ensures c.loop-i-test.true (not-true c.phase-next.result.ok c.if-not-next.true) ∙ c.loop-i.invariant.1)
 
 pub loop-i-preserved : goal.loop-i-preserved
 loop-i-preserved c =
     (
       omega (arith, c.loop-i-test.true),
       goes c.args.tests c.args.set_limits c.args.a_max c.args.a_min c.args.band c.loop-i.x c.loop-i.i c.loop-i.invariant.2
-          c.phase-next.ensures c.loop-i-test.true c.if-not-next.false ∙ c.loop-i.invariant.1,
+          c.phase-next.ensures c.loop-i-test.true (not-false c.phase-next.result.ok c.if-not-next.false) ∙ c.loop-i.invariant.1,
       held c.loop-i.x c.loop-i.i c.phase-next.result c.loop-i.invariant.2.row c.loop-i-test.true,
     )
 

@@ -1,0 +1,18 @@
+-- `positive_set::into2` is `into_of` at two numbers. Assumes nothing.
+use Rattle.positive_set.specs.Set.{into_of}
+use Rattle.positive_set.proofs.into2.Goals as goal
+
+pub returns-then-y1-x : goal.returns-then-y1-x
+unfolding into_of
+returns-then-y1-x c =
+    rw (c.set3.ensures, c.if-y0-x.true, c.if-y1-x.true)
+
+pub returns-else-y1-x : goal.returns-else-y1-x
+unfolding into_of
+returns-else-y1-x c =
+    rw (c.set3-else-y1-x.ensures, c.if-y0-x.true, c.if-y1-x.false)
+
+pub returns-else-y0-x : goal.returns-else-y0-x
+unfolding into_of
+returns-else-y0-x c =
+    rw (c.set3-else-y0-x.ensures, c.if-y0-x.false)
