@@ -6,7 +6,6 @@ use Prim.Native.Nat.{ℕ}
 use native.Mathlib.Omega.{arith}
 use types.Run.{OneOf}
 use denote.Enum.Declared.{tag_of}
-use borrow.Author.Rules.{rules}
 use Rattle.roots.specs.declared.RootAnswer.{RootAnswer}
 use Rattle.step2_solver.specs.declared.PositionThirdOrderStep2.{PositionThirdOrderStep2}
 use Rattle.step2_solver.specs.declared.Limits.{Limits}
@@ -16,8 +15,7 @@ use Rattle.step2_solver.specs.contracts.Shape as shapes
 use Rattle.step2_quartics.specs.declared.Quartics.{Quartics}
 use Rattle.time_acc0_acc1.specs.RestToRest.{acc0_acc1_by}
 use Rattle.position_third_step2.specs.Shape.{is_rest_to_rest_of, attempts_of}
-use Rattle.position_third_step2.proofs.in_place.ask.Statement.{statement}
-use Rattle.position_third_step2.proofs.in_place.ask.Tie as tie
+use Rattle.position_third_step2.proofs.in_place.ask.Goals as goal
 
 -- the shapes of the last arm, whose keys are 3 and 5
 other : (n : ℕ) → OneOf (3 ∷ 5 ∷ []) n → (n ≡ 3 → ⊥) → (n ≡ 5 → ⊥) → ⊥
@@ -33,19 +31,18 @@ of_two Acc0Acc1 h s l q first second = refl
 of_two Acc0 h s l q first second = absurd (other 4 h (λ e. omega arith) (λ e. omega arith))
 of_two RestToRest h s l q first second = refl
 
-last : tie.Need-returns-5
-last c =
-    let i = c.before.before in let m = i.before in let a = m.before.args in
-    rw (← of_two a.shape m.match.keys5 a.s a.l a.q a.first a.second)
-    (rw i.is-rest-to-rest.ensures at c.time-acc0-acc1.ensures)
+pub returns-in-Acc0Acc1Vel : goal.returns-in-Acc0Acc1Vel
+returns-in-Acc0Acc1Vel c =
+    rw c.in-Acc0Acc1Vel.is c.time_acc0_acc1_vel.ensures
 
-pub ask-spec : {M : Type 1} → statement M
-ask-spec =
-    tie.close
-    (tie.spec (λ c. search rules) (λ c κs. tt) (λ c. search rules) (λ c κs. tt) (λ c. search rules) (λ c κs. tt)
-    (λ c. search rules) (λ c κs. tt) (λ c. search rules) (λ c κs. tt)
-    (λ c. rw c.before.before.enum_told.given.1 c.time-acc0-acc1-vel.ensures)
-    (λ c. rw c.before.before.enum-told2.given.1 c.time-acc1-vel.ensures)
-    (λ c. rw c.before.before.enum-told3.given.1 c.time-acc0-vel.ensures)
-    (λ c. rw c.before.before.enum-told4.given.1 c.time-acc0.ensures)
-    last)
+pub returns-in-Acc1Vel : goal.returns-in-Acc1Vel
+returns-in-Acc1Vel c =
+    rw c.in-Acc1Vel.is c.time_acc1_vel.ensures
+
+pub returns-in-Acc0Vel : goal.returns-in-Acc0Vel
+returns-in-Acc0Vel c =
+    rw c.in-Acc0Vel.is c.time_acc0_vel.ensures
+
+pub returns-in-Acc0 : goal.returns-in-Acc0
+returns-in-Acc0 c =
+    rw c.in-Acc0.is c.time_acc0.ensures
