@@ -1,6 +1,7 @@
 // `check` by value for the benchmarks in bench/: the record is made of a lent row, and what comes back is stored there.
 // It has a library of its own: beside another caller of `check` in place, that function is called and not inlined.
 #![tactic(auto)]
+
 ghost use Rattle.std.specs.Prelude.{◌≡◌};
 ghost use Rattle.row.specs.Row.{numbers_in};
 ghost use Rattle.bench_labels.specs.Lent.{check_lent_of};

@@ -1,6 +1,7 @@
 // What the benchmarks in bench/ call from Rust: the square root, and `check` in place on a lent row.
 // An exported function takes no enum, so signs and labels are numbers.
 #![tactic(auto)]
+
 ghost use Rattle.std.specs.Prelude.{◌≡◌};
 ghost use Rattle.sqrt.specs.Sqrt.{sqrt_of};
 ghost use Rattle.row.specs.Row.{numbers_in};

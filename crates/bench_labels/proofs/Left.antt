@@ -12,7 +12,7 @@ use Rattle.profile.specs.declared.Checked.{Checked}
 use Rattle.profile.specs.Parts.{profile_of, numbers_of, labels_of}
 use Rattle.profile.specs.Check.{check_of}
 use Rattle.bench_labels.specs.Codes.{answer_number_of}
-use Rattle.bench_labels.specs.Lent.{Left, left_of, check_lent_of}
+use Rattle.bench_labels.specs.Lent.{left_of, check_lent_of}
 
 module _ (n : Numbers) (signs label : ℕ) (set-limits : Bool) (jf v-max v-min a_max_lem a_min_lem : Float) where
   pub left : {l : Labels} → l ≡ start_labels_of → {c : ControlSigns} → c ≡ signs_of signs

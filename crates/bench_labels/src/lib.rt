@@ -1,5 +1,6 @@
 // The verdict and the labels in one number, for a caller that has no enums.
 #![tactic(auto)]
+
 ghost use Rattle.std.specs.Prelude.{◌≡◌, cond, ◌<◌};
 ghost use Rattle.bench_labels.specs.Codes.{answer_number_of};
 

@@ -1,6 +1,7 @@
 // Rust's methods on `f64` that the port uses, as functions. Each promise is an equation with a definition
 // over the logic's account of IEEE 754, in which all NaNs are one.
 #![tactic(auto)]
+
 ghost use Rattle.std.specs.Prelude.{◌≡◌, cond};
 ghost use Rattle.std.specs.Float.{binary64};
 ghost use Rattle.std.specs.Float.Ieee.{of_bits, to_bits, lt};

@@ -1,5 +1,6 @@
 // The sign of the jerk in each phase, and the seven jerks.
 #![tactic(auto)]
+
 ghost use Rattle.std.specs.Prelude.{◌≡◌};
 ghost use Rattle.labels.specs.Labels.{signs_number_of};
 ghost use Rattle.jerks.specs.Jerks.{pattern_of, signed_of, jerk_of, jerks_of};

@@ -1,6 +1,7 @@
 // The labels of a record: which limits a move reaches, its direction and its control signs; as document 01's numbers,
 // and back. With them what the calls of `check` came to: how many there were, and the cause of the last.
 #![tactic(auto)]
+
 pub mod causes;
 pub mod tests;
 

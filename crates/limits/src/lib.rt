@@ -1,5 +1,6 @@
 // The limits that `check` compares with, widened by V_EPS and A_EPS; and its tests at the end, of the goal and limits.
 #![tactic(auto)]
+
 ghost use Rattle.std.specs.Prelude.{◌≡◌};
 ghost use Rattle.row.specs.Row.{numbers_in};
 ghost use Rattle.labels.specs.Causes.{cause_of};

@@ -1,5 +1,6 @@
 // The kinds of line: one table, which the questions, the replies and the line program read.
 #![tactic(auto)]
+
 ghost use Rattle.std.specs.Prelude.{◌≡◌};
 ghost use Rattle.line_kinds.specs.Kinds.{takes_roots_of, row_of};
 

@@ -1,6 +1,7 @@
 // position_third_step2.rs: five shapes of step 2, each a few attempts at seven times, tried in the Rust's order; and
 // the fourth with the t[1] of document 02, Paper 4.
 #![tactic(auto)]
+
 mod acc0;
 mod acc0_acc1;
 mod acc0_acc1_vel;

@@ -1,6 +1,7 @@
 // profile.rs: the record of a move, and `check`, which adds up seven phase times.
 // Left out of the Rust's `Profile` are `brake` and `accel`, which these functions neither read nor write.
 #![tactic(auto)]
+
 pub mod in_place;
 mod parts;
 

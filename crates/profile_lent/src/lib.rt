@@ -1,6 +1,7 @@
 // profile.rs: the functions that change a record which their caller keeps, as the Rust has them with `&mut self`.
 // The work is that of `profile`, by value: here the record is read, and what comes back is stored.
 #![tactic(auto)]
+
 ghost use Rattle.std.specs.Prelude.{◌≡◌};
 ghost use Rattle.profile.specs.Check.{check_of};
 ghost use Rattle.profile.specs.Timing.{timing_of};

@@ -1,6 +1,7 @@
 // A profile's numbers in one row: t, t_sum, j (seven each), a, v, p (eight each), as in a reply, then pf, vf, af.
 // So they are lent as one array, and nothing is copied from one attempt to the next.
 #![tactic(auto)]
+
 ghost use Rattle.std.specs.Prelude.{◌≡◌, ◌+◌, ◌≤◌, length};
 ghost use Rattle.std.proofs.lemmas.List.Edits.{sets};
 ghost use Rattle.row.specs.Row.{numbers_in, with_times, with_sums, with_jerks, with_nodes, start_of};

@@ -1,5 +1,6 @@
 // A trial of a shape: its seven times, held against the goal and the limits by `check`.
 #![tactic(auto)]
+
 ghost use Rattle.std.specs.Prelude.{◌≡◌};
 ghost use Rattle.profile.specs.Parts.{profile_in, checked_in};
 ghost use Rattle.step2_attempt.specs.Attempt.{try_of};

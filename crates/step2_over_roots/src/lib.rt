@@ -1,4 +1,5 @@
 // position_third_step2.rs: the two shapes that try the roots of quartics, on a profile's lent row.
 #![tactic(auto)]
+
 pub mod acc0_vel;
 pub mod acc1_vel;

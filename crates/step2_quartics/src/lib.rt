@@ -1,5 +1,6 @@
 // position_third_step2.rs: the quartics of the two shapes that try the roots of one. They are solved elsewhere.
 #![tactic(auto)]
+
 mod acc0_vel;
 mod acc1_vel;
 

@@ -4,6 +4,7 @@
 // those are.
 
 #![tactic(auto)]
+
 ghost use Rattle.std.specs.Prelude.{◌≡◌};
 ghost use Rattle.step2_solver.specs.New.{new_of, solver_of, limits_of};
 ghost use Rattle.step2_solver.specs.Trials.{the_times, the_trial, no_trial_of};

@@ -1,6 +1,7 @@
 // position_third_step2.rs, `time_acc0`: its expressions and attempts, by the Rust's names, in its order.
 
 #![tactic(auto)]
+
 ghost use Rattle.std.specs.Prelude.{◌≡◌};
 ghost use Rattle.time_acc0.specs.TimeAcc0.{acc0_first_radicand, acc0_first_times, acc0_first, acc0_second_h0a};
 ghost use Rattle.time_acc0.specs.TimeAcc0.{acc0_second_h0b, acc0_second_radicand, acc0_second_h0, acc0_second_t1};

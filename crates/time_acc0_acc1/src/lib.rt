@@ -1,6 +1,7 @@
 // position_third_step2.rs, `time_acc0_acc1`: its expressions and attempts, by the Rust's names, in its order.
 // Document 02's kind 08 is the same with another t[1] from rest to rest, and shares all else.
 #![tactic(auto)]
+
 mod rest_to_rest;
 
 ghost use Rattle.std.specs.Prelude.{◌≡◌, cond};

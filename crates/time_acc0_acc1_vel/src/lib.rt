@@ -1,6 +1,7 @@
 // position_third_step2.rs, `time_acc0_acc1_vel`: its expressions and attempts, by the Rust's names, in its order.
 
 #![tactic(auto)]
+
 ghost use Rattle.std.specs.Prelude.{◌≡◌};
 ghost use Rattle.time_acc0_acc1_vel.specs.TimeAcc0Acc1Vel.{acc0_acc1_vel_uddu_radicand, acc0_acc1_vel_uddu_h1};
 ghost use Rattle.time_acc0_acc1_vel.specs.TimeAcc0Acc1Vel.{acc0_acc1_vel_uddu_t1};

@@ -2,6 +2,7 @@
 // t is a root of the quartic.
 
 #![tactic(auto)]
+
 ghost use Rattle.std.specs.Prelude.{◌≡◌};
 ghost use Rattle.time_acc0_vel.specs.TimeAcc0Vel.{acc0_vel_uddu_orig, acc0_vel_uddu_deriv, acc0_vel_uddu_newton};
 ghost use Rattle.time_acc0_vel.specs.TimeAcc0Vel.{acc0_vel_uddu_h1, acc0_vel_uddu_times, acc0_vel_uddu};

@@ -2,6 +2,7 @@
 // t is a root of the quartic.
 
 #![tactic(auto)]
+
 ghost use Rattle.std.specs.Prelude.{◌≡◌};
 ghost use Rattle.time_acc1_vel.specs.TimeAcc1Vel.{acc1_vel_uddu_orig, acc1_vel_uddu_deriv, acc1_vel_uddu_newton};
 ghost use Rattle.time_acc1_vel.specs.TimeAcc1Vel.{acc1_vel_uddu_h1, acc1_vel_uddu_times, acc1_vel_uddu};

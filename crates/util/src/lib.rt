@@ -1,5 +1,6 @@
 // util.rs: the state after some time at constant jerk.
 #![tactic(auto)]
+
 ghost use Rattle.std.specs.Prelude.{◌≡◌};
 ghost use Rattle.util.specs.Integrate.{integrate_of};
 

@@ -1,5 +1,5 @@
 -- `attempt` is `acc0_acc1_by`, by whether the rest formula applies. Assumes nothing.
-use mathlib.Core.Path.{◌≡◌, refl, ◌∙◌}
+use mathlib.Core.Path.{◌≡◌, refl}
 use mathlib.Core.Bool.{Bool, true, false, cond}
 use Rattle.step2_solver.specs.declared.Trial.{Trial}
 use Rattle.time_acc0_acc1.proofs.attempt.Goals as goal

@@ -1,6 +1,5 @@
 -- `nodes` makes the seven phases in the row. The invariant: the rest of the phases from here is the whole from the
 -- start, and the numbers are those of entry i. Assumes nothing.
-use Prim.Native.Nat.{◌-◌}
 use mathlib.Core.Path.{refl, ◌∙◌}
 use native.Mathlib.Omega.{arith}
 use borrow.Author.Rules.{rules}
@@ -20,13 +19,12 @@ returns-then-not-next c =
     c.phase-next.ensures c.loop-i-test.true (not-true c.phase-next.result.ok c.if-not-next.true) ∙ c.loop-i.invariant.1)
 
 pub loop-i-preserved : goal.loop-i-preserved
-loop-i-preserved c =
-    (
-      omega (arith, c.loop-i-test.true),
-      goes c.args.tests c.args.set_limits c.args.a_max c.args.a_min c.args.band c.loop-i.x c.loop-i.i c.loop-i.invariant.2
-          c.phase-next.ensures c.loop-i-test.true (not-false c.phase-next.result.ok c.if-not-next.false) ∙ c.loop-i.invariant.1,
-      held c.loop-i.x c.loop-i.i c.phase-next.result c.loop-i.invariant.2.row c.loop-i-test.true,
-    )
+loop-i-preserved c = (
+  omega (arith, c.loop-i-test.true),
+  goes c.args.tests c.args.set_limits c.args.a_max c.args.a_min c.args.band c.loop-i.x c.loop-i.i c.loop-i.invariant.2
+      c.phase-next.ensures c.loop-i-test.true (not-false c.phase-next.result.ok c.if-not-next.false) ∙ c.loop-i.invariant.1,
+  held c.loop-i.x c.loop-i.i c.phase-next.result c.loop-i.invariant.2.row c.loop-i-test.true,
+)
 
 pub returns : goal.returns
 returns c =

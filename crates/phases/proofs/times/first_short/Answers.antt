@@ -1,7 +1,6 @@
 -- `first_short` is the cause of the first of four tests that fails. Assumes nothing.
 use mathlib.Core.Path.{◌≡◌, refl}
 use mathlib.Core.Bool.{Bool, true, false, ◌||◌, true≢false}
-use borrow.Author.Tests.{not-true, not-false}
 use Rattle.labels.specs.declared.causes.Cause.TheVariants.{Yes, Total}
 use Rattle.labels.specs.Causes.{cause_of}
 use Rattle.phases.specs.Times.{four_tests}

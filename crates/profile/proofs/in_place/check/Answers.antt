@@ -1,6 +1,5 @@
 -- `check` in place is `check_of`: one law for each way out (Ways.antt). Assumes nothing.
 use mathlib.Core.Path.{sym, ◌∙◌}
-use borrow.Author.Tests.{not-true, not-false}
 use Rattle.profile.specs.Parts.{profile_in}
 use Rattle.profile.proofs.Ways.{negative_time, refused_time, left_the_band, ended}
 use Rattle.profile.proofs.in_place.check.Goals as goal

@@ -1,5 +1,4 @@
 -- The roots of UDDU's quartic in `time_acc1_vel`, tried in their order. Assumes nothing.
-use Prim.Native.Nat.{◌-◌}
 use native.Mathlib.Omega.{arith}
 use Rattle.step2_over_roots.proofs.Roots.{start, hit, miss, spent}
 use Rattle.step2_over_roots.proofs.acc1_vel.uddu.Goals as goal
