@@ -9,7 +9,8 @@ use Rattle.line_frame.proofs.reading.all_finite.Given as goal
 
 abbrev pub invariant-loop-i : goal.invariant-loop-i
 invariant-loop-i l =
-    (l.i ≤ l.n) × (l.ok && rest (byte_at l.frame) l.at l.n 0 l.i ≡ all_finite_of (numbers_at (byte_at l.frame) l.at l.n))
+    (l.i ≤ l.n)
+    × (l.ok && rest (byte_at l.frame) l.at l.n 0 l.i ≡ all_finite_of (numbers_at (byte_at l.frame) l.at l.n))
 
 abbrev pub decreases-loop-i : goal.decreases-loop-i
 decreases-loop-i l = l.n - l.i
