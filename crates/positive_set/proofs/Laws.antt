@@ -32,7 +32,8 @@ abbrev pub NotBelow0 : Float → Type 0
 NotBelow0 x = T (le #0 x)
 
 module _ (P : Float → Type 0) where
-  pub every_insert_all : (vs l : List Float) → Every (λ v. T (le #0 v) → P v) vs → Every P l → Every P (insert_all_of l vs)
+  pub every_insert_all : (vs l : List Float) → Every (λ v. T (le #0 v) → P v) vs → Every P l
+      → Every P (insert_all_of l vs)
   unfolding insert_all_of
   every_insert_all [] l e f = f
   every_insert_all (v ∷ vs) l e f =

@@ -22,7 +22,8 @@ small_of x = lt (abs_of x) #ε
 -- Nothing where d and c are small; the cube root of c where d is small, c is not, and a and b both are;
 -- otherwise the resolvent's roots.
 unfoldable pub need_of : Float → Float → Float → Float → Need
-need_of a b c d = cond (small_of d) (cond (small_of c) Nothing (cond (small_of a && small_of b) Cube Resolvent)) Resolvent
+need_of a b c d =
+    cond (small_of d) (cond (small_of c) Nothing (cond (small_of a && small_of b) Cube Resolvent)) Resolvent
 
 -- The byte that stands for a need.
 abbrev pub need_number_of : Need → ℕ

@@ -1,10 +1,12 @@
 // The quartic of roots.rs, x^4 + a x^3 + b x^2 + c x + d: its roots that are not negative. The set is in positive_set.
 // Its cube root and the roots of its resolvent are worked out elsewhere and handed in as a `RootAnswer`.
 #![tactic(auto)]
+
 ghost use Rattle.std.specs.Prelude.{◌≡◌, List, [], ◌≤◌, length, Float};
 ghost use Rattle.positive_set.specs.Set.{set_of, insert_all_of, sorted_of};
-ghost use Rattle.roots.specs.Quartic.{small_of, need_of, need_number_of, resolvent_of, chosen_of, larger_of, factors_of};
-ghost use Rattle.roots.specs.Quartic.{quadratic_of, without_cd_of, with_cbrt_of, resolved_of, roots_of, polynom_roots_of};
+ghost use Rattle.roots.specs.Quartic.{small_of, need_of, need_number_of, resolvent_of, chosen_of, larger_of};
+ghost use Rattle.roots.specs.Quartic.{factors_of, quadratic_of, without_cd_of, with_cbrt_of, resolved_of};
+ghost use Rattle.roots.specs.Quartic.{roots_of, polynom_roots_of};
 
 use float::{abs, near, pick};
 use positive_set::PositiveSet;

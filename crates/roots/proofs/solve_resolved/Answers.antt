@@ -9,8 +9,7 @@ use Rattle.roots.specs.declared.Three.{Three}
 use Rattle.roots.specs.declared.Factors.{Factors}
 use Rattle.roots.specs.Quartic.{chosen_of, factors_of, quadratic_of, resolved_of}
 use Rattle.positive_set.proofs.Sets.{insert_all_length, insert_all_append}
-use Rattle.roots.proofs.solve_resolved.Statement.{statement}
-use Rattle.roots.proofs.solve_resolved.Tie as tie
+use Rattle.roots.proofs.solve_resolved.Goals as goal
 
 -- what two factors offer
 abbrev both : Factors → List Float
@@ -21,18 +20,14 @@ by-factors : (a b c d : Float) (count : ℕ) (x : Three) {y : Float} {f : Factor
 unfolding resolved_of
 by-factors a b c d count x e g = ap both (g ∙ ap (factors_of a b c d) e)
 
-returns : tie.Need-returns
+pub returns : goal.returns
 returns c =
-    let f = c.before.before.before.factor.result in
+    let f = c.factor-f.result in
     let u = quadratic_of #16ε f.p1 f.q1 in
     let v = quadratic_of #16ε f.p2 f.q2 in
-    let a = c.before.before.before.before.before.args in
-    c.insert-quadratic2.ensures (insert_all_of [] u) (insert_all_length u [] zero-le)
-    (c.before.insert-quadratic.ensures [] zero-le c.before.before.new.ensures)
+    c.insert_quadratic.ensures (insert_all_of [] u) (insert_all_length u [] zero-le)
+    (c.insert_quadratic-roots.ensures [] zero-le c.new.ensures)
     ∙ ap set_of (sym (insert_all_append u v []))
     ∙ ap (λ l. set_of (insert_all_of [] l))
-    (by-factors a.a a.b a.c a.d a.number-zeroes a.x3
-    c.before.before.before.before.chosen.ensures c.before.before.before.factor.ensures)
-
-pub solve-resolved-spec : {M : Type 1} → statement M
-solve-resolved-spec = tie.close (tie.spec (λ c κs. tt) (λ c κs. tt) (λ c κs. tt) (λ c κs. tt) (λ c κs. tt) returns)
+    (by-factors c.args.a c.args.b c.args.c c.args.d c.args.number_zeroes c.args.x3
+    c.chosen.ensures c.factor-f.ensures)
