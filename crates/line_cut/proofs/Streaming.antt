@@ -1,6 +1,6 @@
 -- A call of a stream goes by characters: what it does up to the first line feed, or up to the end where there is none.
 -- Assumes nothing.
-use mathlib.Core.Path.{◌≡◌, refl, ap, sym, ◌∙◌}
+use mathlib.Core.Path.{◌≡◌, refl, ap, ◌∙◌}
 use mathlib.Core.Bool.{Bool, true, false, cond}
 use mathlib.Core.List.{List, [], ◌∷◌, ◌++◌, append-nil}
 use Prim.Native.Nat.{ℕ, zero, suc, ◌+◌, ◌≤◌, ◌<◌}
@@ -82,7 +82,8 @@ module _ {S : Type 0} (way : Answering S) where
         → from used kept input ≡ progress (used + length input) (take most (kept ++ input)) s written
     no_feed_lem used kept [] few e = at_end used kept few
     no_feed_lem used kept (c ∷ input) few e =
-        by (eqb c 10) refl e (λ n. no_feed_lem (suc used) (longer most kept c) input (cut_most most (kept ++ (c ∷ []))) n)
+        by (eqb c 10) refl e
+        (λ n. no_feed_lem (suc used) (longer most kept c) input (cut_most most (kept ++ (c ∷ []))) n)
       where
         by : (b : Bool) → eqb c 10 ≡ b → cond b 0 (suc (line_length input)) ≡ suc (length input)
             → (line_length input ≡ length input

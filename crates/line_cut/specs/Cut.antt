@@ -1,5 +1,6 @@
 -- The lines of an input, a line that goes on, and a text in lent places. Definitions only.
-use Rattle.std.specs.Prelude.{Bool, true, cond, not, ◌&&◌, List, [], ◌∷◌, ◌++◌, ◌≡◌, ℕ, zero, suc, ◌+◌, eqb, length, take}
+use Rattle.std.specs.Prelude.{Bool, true, cond, not, ◌&&◌, List, [], ◌∷◌, ◌++◌, ◌≡◌, ℕ, zero, suc, ◌+◌, length, take}
+use Rattle.std.specs.Prelude.{eqb}
 use Rattle.std.proofs.lemmas.List.Edits.{sets}
 use Rattle.hex_bytes.specs.Hex.{fill}
 

@@ -46,8 +46,8 @@ chosen false b w x z h = inl h
 pub at_most : (s : D) (e m : ℕ) → Same s (signed false e) → Below s (signed false m) → e ≤ m
 at_most s e m h k = omega arith
 
-module _ {signs : ControlSigns} {limits : ReachedLimits} {jf v-max v-min a_max_lem a_min_lem : Float} {q q' : Profile}
-    (y : Yes signs limits jf v-max v-min a_max_lem a_min_lem q q') (h : Held q) (fj : T (fits binary64 jf)) where
+module _ {signs : ControlSigns} {limits : ReachedLimits} {jf v_max v_min a_max a_min : Float} {q q' : Profile}
+    (y : Yes signs limits jf v_max v_min a_max a_min q q') (h : Held q) (fj : T (fits binary64 jf)) where
   next_a : (r : ℕ) → Residual r limits q' → (i : ℕ) → i < 7
       → ((node q' (suc i)).a ≡ (step_of (time q' i) (jerk q' i) (node q' i)).a)
       ⊎ Replaced r (node q' (suc i)).a (after q' i).a
@@ -94,56 +94,56 @@ either true x y f g = f
 either false x y f g = g
 
 -- ---- the theorem
-module _ (signs : ControlSigns) (limits : ReachedLimits) (jf v-max v-min a_max_lem a_min_lem : Float) (q : Profile) where
+module _ (signs : ControlSigns) (limits : ReachedLimits) (jf v_max v_min a_max a_min : Float) (q : Profile) where
   -- the profile that `check` leaves
   abbrev pub reply : Profile
-  reply = (check_of signs limits false jf v-max v-min a_max_lem a_min_lem q).profile
+  reply = (check_of signs limits false jf v_max v_min a_max a_min q).profile
 
-  module _ (h : Held q) (fj : T (fits binary64 jf)) (n-v-max : Number v-max) (n-v-min : Number v-min)
-      (n-a-max : Number a_max_lem) (n-a-min : Number a_min_lem)
-      (accepted : (check_of signs limits false jf v-max v-min a_max_lem a_min_lem q).ok ≡ true) where
-    made : Yes signs limits jf v-max v-min a_max_lem a_min_lem q reply
-    made = check_yes signs limits jf v-max v-min a_max_lem a_min_lem q h accepted
+  module _ (h : Held q) (fj : T (fits binary64 jf)) (n_v_max : Number v_max) (n_v_min : Number v_min)
+      (n_a_max : Number a_max) (n_a_min : Number a_min)
+      (accepted : (check_of signs limits false jf v_max v_min a_max a_min q).ok ≡ true) where
+    made : Yes signs limits jf v_max v_min a_max a_min q reply
+    made = check_yes signs limits jf v_max v_min a_max a_min q h accepted
 
-    -- every recorded number is near the exact motion's: within offA r, offV r and offP r times 2 ^ -53
+    -- every recorded number is near the exact motion's: within off_a r, off_v r and off_p r times 2 ^ -53
     pub check_recorded : (r : ℕ) → r ≤ 2 ^ 40 → Within reply → Residual r limits reply → (i : ℕ) → i ≤ 7
         → Recorded r (node reply i) (exact reply i)
     check_recorded r few w residual = recorded (run_of made h fj r few w residual)
 
-    arrives : (q' : Profile) → Yes signs limits jf v-max v-min a_max_lem a_min_lem q q' → (r : ℕ) → r ≤ 2 ^ 40 → Within q'
-        → Residual r limits q' → Arrives (proved r) v-max v-min a_max_lem a_min_lem q'
+    arrives : (q' : Profile) → Yes signs limits jf v_max v_min a_max a_min q q' → (r : ℕ) → r ≤ 2 ^ 40 → Within q'
+        → Residual r limits q' → Arrives (proved r) v_max v_min a_max a_min q'
     arrives q' y r few w residual =
         let z = run_of y h fj r few w residual in
         let g = held-left y.carried h in
         let k = limits-kept y in
-        let b = lt #0 v-max in
-        let v_low = either b v-min v-max n-v-min n-v-max in
-        let v-upp = either b v-max v-min n-v-max n-v-min in
-        let a-low = either b a_min_lem a_max_lem n-a-min n-a-max in
-        let a-upp = either b a_max_lem a_min_lem n-a-max n-a-min in
+        let b = lt #0 v_max in
+        let v_low = either b v_min v_max n_v_min n_v_max in
+        let v_upp = either b v_max v_min n_v_max n_v_min in
+        let a_low = either b a_min a_max n_a_min n_a_max in
+        let a_upp = either b a_max a_min n_a_max n_a_min in
         record {
           position = at_p z q'.pf g.held-pf (end_p y);
           velocity = at_v z q'.vf g.held-vf (end_v y);
           acceleration = at_a z q'.af g.held-af (end_a y);
-          velocity_2 = v_between z 3 (lit≤ tt) (lower v-max v-max v-min) (upper v-max v-max v-min) v_low v-upp k.v3;
-          velocity_3 = v_between z 4 (lit≤ tt) (lower v-max v-max v-min) (upper v-max v-max v-min) v_low v-upp k.v4;
-          velocity_4 = v_between z 5 (lit≤ tt) (lower v-max v-max v-min) (upper v-max v-max v-min) v_low v-upp k.v5;
-          velocity_5 = v_between z 6 (lit≤ tt) (lower v-max v-max v-min) (upper v-max v-max v-min) v_low v-upp k.v6;
+          velocity_2 = v_between z 3 (lit≤ tt) (lower v_max v_max v_min) (upper v_max v_max v_min) v_low v_upp k.v3;
+          velocity_3 = v_between z 4 (lit≤ tt) (lower v_max v_max v_min) (upper v_max v_max v_min) v_low v_upp k.v4;
+          velocity_4 = v_between z 5 (lit≤ tt) (lower v_max v_max v_min) (upper v_max v_max v_min) v_low v_upp k.v5;
+          velocity_5 = v_between z 6 (lit≤ tt) (lower v_max v_max v_min) (upper v_max v_max v_min) v_low v_upp k.v6;
           acceleration_0 =
-              a_between z 1 (lit≤ tt) (lower v-max a_max_lem a_min_lem) (upper v-max a_max_lem a_min_lem) a-low a-upp k.a1;
+              a_between z 1 (lit≤ tt) (lower v_max a_max a_min) (upper v_max a_max a_min) a_low a_upp k.a1;
           acceleration_2 =
-              a_between z 3 (lit≤ tt) (lower v-max a_max_lem a_min_lem) (upper v-max a_max_lem a_min_lem) a-low a-upp k.a3;
+              a_between z 3 (lit≤ tt) (lower v_max a_max a_min) (upper v_max a_max a_min) a_low a_upp k.a3;
           acceleration_4 =
-              a_between z 5 (lit≤ tt) (lower v-max a_max_lem a_min_lem) (upper v-max a_max_lem a_min_lem) a-low a-upp k.a5;
+              a_between z 5 (lit≤ tt) (lower v_max a_max a_min) (upper v_max a_max a_min) a_low a_upp k.a5;
         }
 
     pub check_arrives_closely : (r : ℕ) → r ≤ 2 ^ 40 → Within reply → Residual r limits reply
-        → Arrives (proved r) v-max v-min a_max_lem a_min_lem reply
+        → Arrives (proved r) v_max v_min a_max a_min reply
     check_arrives_closely = arrives reply made
 
     -- a residual of at most 500,000 times 2 ^ -53, 5.6e-11
     pub check_arrives : (r : ℕ) → r ≤ 500_000 → Within reply → Residual r limits reply
-        → Arrives demanded v-max v-min a_max_lem a_min_lem reply
+        → Arrives demanded v_max v_min a_max a_min reply
     check_arrives r few w residual =
-        wider (proved r) demanded v-max v-min a_max_lem a_min_lem reply (narrower r few)
+        wider (proved r) demanded v_max v_min a_max a_min reply (narrower r few)
         (check_arrives_closely r (le_trans few (lit≤ tt)) w residual)

@@ -210,16 +210,16 @@ narrow k c C f h z l = (
     wide a x y h = omega arith
 
 largest : (r : ℕ) → r ≤ 500_000
-    → (off_a r + 523 ≤ off_a 500_000 + 523) × (off_v r + 4171 ≤ off_v 500_000 + 4171) × (off_p r + 2 ≤ off_p 500_000 + 2)
-    × (off_v r + 2 ≤ off_v 500_000 + 2) × (off_a r + 2 ≤ off_a 500_000 + 2)
+    → (off_a r + 523 ≤ off_a 500_000 + 523) × (off_v r + 4171 ≤ off_v 500_000 + 4171)
+    × (off_p r + 2 ≤ off_p 500_000 + 2) × (off_v r + 2 ≤ off_v 500_000 + 2) × (off_a r + 2 ≤ off_a 500_000 + 2)
 largest r h = omega arith
 
 pub record Narrowed (w w' : Distances) : Type 0 where
   pub position : Narrower w.position w'.position
   pub velocity : Narrower w.velocity w'.velocity
   pub acceleration : Narrower w.acceleration w'.acceleration
-  pub velocity_limit : Narrower w.velocity_limit w'.velocity-limit
-  pub acceleration_limit : Narrower w.acceleration_limit w'.acceleration-limit
+  pub velocity_limit : Narrower w.velocity_limit w'.velocity_limit
+  pub acceleration_limit : Narrower w.acceleration_limit w'.acceleration_limit
 
 pub narrower : (r : ℕ) → r ≤ 500_000 → Narrowed (proved r) demanded
 narrower r h =
@@ -234,8 +234,8 @@ narrower r h =
           narrow 1_000_000_000_000 (off_a r + 523) (off_a 500_000 + 523) demanded.acceleration_limit l.0 tt tt;
     }
 
-module _ (w w' : Distances) (v-max v-min a_max_lem a_min_lem : Float) (q : Profile) where
-  pub wider : Narrowed w w' → Arrives w v-max v-min a_max_lem a_min_lem q → Arrives w' v-max v-min a_max_lem a_min_lem q
+module _ (w w' : Distances) (v_max v_min a_max a_min : Float) (q : Profile) where
+  pub wider : Narrowed w w' → Arrives w v_max v_min a_max a_min q → Arrives w' v_max v_min a_max a_min q
   wider n h =
       record {
         position = wider_at w.position w'.position n.position per_p (after q 6).p q.pf h.position;
@@ -252,14 +252,14 @@ module _ (w w' : Distances) (v-max v-min a_max_lem a_min_lem : Float) (q : Profi
         acceleration_4 = a h.acceleration_4;
       }
     where
-      v : {X : D} → Between w.velocity_limit per_v (lower v-max v-max v-min) X (upper v-max v-max v-min)
-          → Between w'.velocity-limit per_v (lower v-max v-max v-min) X (upper v-max v-max v-min)
+      v : {X : D} → Between w.velocity_limit per_v (lower v_max v_max v_min) X (upper v_max v_max v_min)
+          → Between w'.velocity_limit per_v (lower v_max v_max v_min) X (upper v_max v_max v_min)
       v {X} =
-          wider_between w.velocity_limit w'.velocity-limit n.velocity_limit per_v (lower v-max v-max v-min) X
-          (upper v-max v-max v-min)
+          wider_between w.velocity_limit w'.velocity_limit n.velocity_limit per_v (lower v_max v_max v_min) X
+          (upper v_max v_max v_min)
 
-      a : {X : D} → Between w.acceleration_limit per_a (lower v-max a_max_lem a_min_lem) X (upper v-max a_max_lem a_min_lem)
-          → Between w'.acceleration-limit per_a (lower v-max a_max_lem a_min_lem) X (upper v-max a_max_lem a_min_lem)
+      a : {X : D} → Between w.acceleration_limit per_a (lower v_max a_max a_min) X (upper v_max a_max a_min)
+          → Between w'.acceleration_limit per_a (lower v_max a_max a_min) X (upper v_max a_max a_min)
       a {X} =
-          wider_between w.acceleration_limit w'.acceleration-limit n.acceleration_limit per_a
-          (lower v-max a_max_lem a_min_lem) X (upper v-max a_max_lem a_min_lem)
+          wider_between w.acceleration_limit w'.acceleration_limit n.acceleration_limit per_a
+          (lower v_max a_max a_min) X (upper v_max a_max a_min)

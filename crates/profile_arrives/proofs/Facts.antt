@@ -81,9 +81,9 @@ pub jerk_is : (signs : ControlSigns) (t : List Float) (jf : Float) (i : ℕ) →
     → get_or (jerks_of signs t jf) i nan ≡ jerk_of (get_or (pattern_of signs) i Zero) (get_or t i nan) jf
 unfolding jerks_of
 jerk_is signs t jf =
-    by_seven (λ (i : ℕ). get_or (jerks_of signs t jf) i nan ≡ jerk_of (get_or (pattern_of signs) i Zero) (get_or t i nan) jf)
-    refl
-    refl refl refl refl refl refl
+    by_seven
+    (λ (i : ℕ). get_or (jerks_of signs t jf) i nan ≡ jerk_of (get_or (pattern_of signs) i Zero) (get_or t i nan) jf)
+    refl refl refl refl refl refl refl
 
 signed-fits : (s : Sign) (jf : Float) → T (fits binary64 jf) → T (fits binary64 (signed_of s jf))
 signed-fits Plus jf h = h
@@ -100,17 +100,17 @@ Inside low x upp = T (le (low ⊖ #1e-12) x) × T (le x (upp ⊕ #1e-12))
 inside : (low x upp : Float) → le (low ⊖ #1e-12) x && le x (upp ⊕ #1e-12) ≡ true → Inside low x upp
 inside low x upp h = let w = both (le (low ⊖ #1e-12) x) (le x (upp ⊕ #1e-12)) h in (is_true w.0, is_true w.1)
 
-pub record Kept (v-max v-min a_max_lem a_min_lem : Float) (q : Profile) : Type 0 where
-  pub a1 : Inside (lower v-max a_max_lem a_min_lem) (node q 1).a (upper v-max a_max_lem a_min_lem)
-  pub a3 : Inside (lower v-max a_max_lem a_min_lem) (node q 3).a (upper v-max a_max_lem a_min_lem)
-  pub a5 : Inside (lower v-max a_max_lem a_min_lem) (node q 5).a (upper v-max a_max_lem a_min_lem)
-  pub v3 : Inside (lower v-max v-max v-min) (node q 3).v (upper v-max v-max v-min)
-  pub v4 : Inside (lower v-max v-max v-min) (node q 4).v (upper v-max v-max v-min)
-  pub v5 : Inside (lower v-max v-max v-min) (node q 5).v (upper v-max v-max v-min)
-  pub v6 : Inside (lower v-max v-max v-min) (node q 6).v (upper v-max v-max v-min)
+pub record Kept (v_max v_min a_max a_min : Float) (q : Profile) : Type 0 where
+  pub a1 : Inside (lower v_max a_max a_min) (node q 1).a (upper v_max a_max a_min)
+  pub a3 : Inside (lower v_max a_max a_min) (node q 3).a (upper v_max a_max a_min)
+  pub a5 : Inside (lower v_max a_max a_min) (node q 5).a (upper v_max a_max a_min)
+  pub v3 : Inside (lower v_max v_max v_min) (node q 3).v (upper v_max v_max v_min)
+  pub v4 : Inside (lower v_max v_max v_min) (node q 4).v (upper v_max v_max v_min)
+  pub v5 : Inside (lower v_max v_max v_min) (node q 5).v (upper v_max v_max v_min)
+  pub v6 : Inside (lower v_max v_max v_min) (node q 6).v (upper v_max v_max v_min)
 
-module _ {signs : ControlSigns} {limits : ReachedLimits} {jf v-max v-min a_max_lem a_min_lem : Float} {q q' : Profile}
-    (y : Yes signs limits jf v-max v-min a_max_lem a_min_lem q q') where
+module _ {signs : ControlSigns} {limits : ReachedLimits} {jf v_max v_min a_max a_min : Float} {q q' : Profile}
+    (y : Yes signs limits jf v_max v_min a_max a_min q q') where
   -- ---- the three tests at the end
   ends : (lt (abs_of ((node q' 7).p ⊖ q'.pf)) #1e-8 ≡ true) × (lt (abs_of ((node q' 7).v ⊖ q'.vf)) #1e-8 ≡ true)
       × (lt (abs_of ((node q' 7).a ⊖ q'.af)) #1e-10 ≡ true)
@@ -121,15 +121,15 @@ module _ {signs : ControlSigns} {limits : ReachedLimits} {jf v-max v-min a_max_l
       let a = both (lt (abs_of ((node q' 7).a ⊖ q'.af)) #1e-10) _ v.1 in
       (p.0, v.0, a.0)
 
-  both_kept : (accelerations_kept_of (nodes_of q') (band_of v-max a_max_lem a_min_lem) ≡ true)
-      × (velocities_kept_of (nodes_of q') (band_of v-max v-max v-min) ≡ true)
+  both_kept : (accelerations_kept_of (nodes_of q') (band_of v_max a_max a_min) ≡ true)
+      × (velocities_kept_of (nodes_of q') (band_of v_max v_max v_min) ≡ true)
   unfolding end_tests
   both_kept =
       let p = both (lt (abs_of ((node q' 7).p ⊖ q'.pf)) #1e-8) _ y.at_end in
       let v = both (lt (abs_of ((node q' 7).v ⊖ q'.vf)) #1e-8) _ p.1 in
       let a = both (lt (abs_of ((node q' 7).a ⊖ q'.af)) #1e-10) _ v.1 in
-      let k = both (accelerations_kept_of (nodes_of q') (band_of v-max a_max_lem a_min_lem)) _ a.1 in
-      (k.0, (both (velocities_kept_of (nodes_of q') (band_of v-max v-max v-min)) true k.1).0)
+      let k = both (accelerations_kept_of (nodes_of q') (band_of v_max a_max a_min)) _ a.1 in
+      (k.0, (both (velocities_kept_of (nodes_of q') (band_of v_max v_max v_min)) true k.1).0)
 
   pub end_p : Close (node q' 7).p q'.pf #1e-8
   end_p = close (node q' 7).p q'.pf #1e-8 number_1e-8 ends.0
@@ -171,27 +171,27 @@ module _ {signs : ControlSigns} {limits : ReachedLimits} {jf v-max v-min a_max_l
     total_is = lasts-elapsed (time q') 7 time-above
 
   -- ---- the seven tests of the limits
-  pub limits-kept : Kept v-max v-min a_max_lem a_min_lem q'
+  pub limits-kept : Kept v_max v_min a_max a_min q'
   unfolding accelerations_kept_of velocities_kept_of band_of
   limits-kept =
-      let w1 = within_of (node q' 1).a (band_of v-max a_max_lem a_min_lem) in
-      let w2 = within_of (node q' 3).a (band_of v-max a_max_lem a_min_lem) in
-      let w3 = within_of (node q' 5).a (band_of v-max a_max_lem a_min_lem) in
-      let w4 = within_of (node q' 3).v (band_of v-max v-max v-min) in
-      let w5 = within_of (node q' 4).v (band_of v-max v-max v-min) in
-      let w6 = within_of (node q' 5).v (band_of v-max v-max v-min) in
-      let w7 = within_of (node q' 6).v (band_of v-max v-max v-min) in
+      let w1 = within_of (node q' 1).a (band_of v_max a_max a_min) in
+      let w2 = within_of (node q' 3).a (band_of v_max a_max a_min) in
+      let w3 = within_of (node q' 5).a (band_of v_max a_max a_min) in
+      let w4 = within_of (node q' 3).v (band_of v_max v_max v_min) in
+      let w5 = within_of (node q' 4).v (band_of v_max v_max v_min) in
+      let w6 = within_of (node q' 5).v (band_of v_max v_max v_min) in
+      let w7 = within_of (node q' 6).v (band_of v_max v_max v_min) in
       let h7 = both (w4 && w5 && w6) w7 both_kept.1 in
       let h6 = both (w4 && w5) w6 h7.0 in
       let h5 = both w4 w5 h6.0 in
       let h3 = both (w1 && w2) w3 both_kept.0 in
       let h2 = both w1 w2 h3.0 in
       record {
-        a1 = inside (lower v-max a_max_lem a_min_lem) (node q' 1).a (upper v-max a_max_lem a_min_lem) h2.0;
-        a3 = inside (lower v-max a_max_lem a_min_lem) (node q' 3).a (upper v-max a_max_lem a_min_lem) h2.1;
-        a5 = inside (lower v-max a_max_lem a_min_lem) (node q' 5).a (upper v-max a_max_lem a_min_lem) h3.1;
-        v3 = inside (lower v-max v-max v-min) (node q' 3).v (upper v-max v-max v-min) h5.0;
-        v4 = inside (lower v-max v-max v-min) (node q' 4).v (upper v-max v-max v-min) h5.1;
-        v5 = inside (lower v-max v-max v-min) (node q' 5).v (upper v-max v-max v-min) h6.1;
-        v6 = inside (lower v-max v-max v-min) (node q' 6).v (upper v-max v-max v-min) h7.1;
+        a1 = inside (lower v_max a_max a_min) (node q' 1).a (upper v_max a_max a_min) h2.0;
+        a3 = inside (lower v_max a_max a_min) (node q' 3).a (upper v_max a_max a_min) h2.1;
+        a5 = inside (lower v_max a_max a_min) (node q' 5).a (upper v_max a_max a_min) h3.1;
+        v3 = inside (lower v_max v_max v_min) (node q' 3).v (upper v_max v_max v_min) h5.0;
+        v4 = inside (lower v_max v_max v_min) (node q' 4).v (upper v_max v_max v_min) h5.1;
+        v5 = inside (lower v_max v_max v_min) (node q' 5).v (upper v_max v_max v_min) h6.1;
+        v6 = inside (lower v_max v_max v_min) (node q' 6).v (upper v_max v_max v_min) h7.1;
       }

@@ -41,9 +41,9 @@ stored (y ∷ l) (suc i) e = stored l i e
 abbrev Lost : ℕ → Nodes → Type 0
 Lost i n = get_or n.p i nan ≡ nan
 
-module _ (m : Tests) (set-limits : Bool) (a_max_lem a_min_lem : Float) (b : Band) (t j : List Float) where
+module _ (m : Tests) (set_limits : Bool) (a_max a_min : Float) (b : Band) (t j : List Float) where
   abbrev phase : ℕ → Nodes → Step Nodes
-  phase = phase_of m set-limits a_max_lem a_min_lem b t j
+  phase = phase_of m set_limits a_max a_min b t j
 
   by_time : (i : ℕ) (n : Nodes) → get_or t i nan ≡ nan → Lost (i + 1) (phase i n).left
   unfolding phase_of node_of integrate_of
@@ -78,27 +78,28 @@ module _ (m : Tests) (set-limits : Bool) (a_max_lem a_min_lem : Float) (b : Band
       ]))
 
 -- such an end is not at the goal
-not_near : (n : Nodes) (g : Goal) (a_band_lem v_band_lem : Band) → Lost 7 n → none_fails (end_tests n g a_band_lem v_band_lem) ≡ true → ⊥
+not_near : (n : Nodes) (g : Goal) (a_band v_band : Band) → Lost 7 n → none_fails (end_tests n g a_band v_band) ≡ true
+    → ⊥
 unfolding end_tests lt abs_of
-not_near n g a_band_lem v_band_lem e h =
+not_near n g a_band v_band e h =
     let near = (both (lt (abs_of (get_or n.p 7 nan ⊖ g.pf)) #1e-8) _ h).0 in
     let lost = ap (λ (z : Float). z ⊖ g.pf) e ∙ nan-sub g.pf in
     true≢false (sym near ∙ ap (λ (z : Float). lt (abs_of z) #1e-8) lost)
 
-module _ (signs : ControlSigns) (limits : ReachedLimits) (set-limits : Bool) (jf v-max v-min a_max_lem a_min_lem : Float)
+module _ (signs : ControlSigns) (limits : ReachedLimits) (set_limits : Bool) (jf v_max v_min a_max a_min : Float)
     (q : Profile) where
   never_yes : (i : ℕ) → i < 7 → get_or q.t i nan ≡ nan
-      → (check_of signs limits set-limits jf v-max v-min a_max_lem a_min_lem q).ok ≡ true → ⊥
+      → (check_of signs limits set_limits jf v_max v_min a_max a_min q).ok ≡ true → ⊥
   never_yes i l e h =
-      let o = others_pass signs limits set-limits jf v-max v-min a_max_lem a_min_lem q h in
-      not_near (nodes signs limits set-limits jf v-max v-min a_max_lem a_min_lem q).left (goal_of q) _ _
-      (lost (tests_of limits) set-limits a_max_lem a_min_lem (band_of v-max v-max v-min) q.t (jerks_of signs q.t jf) 7 0
+      let o = others_pass signs limits set_limits jf v_max v_min a_max a_min q h in
+      not_near (nodes signs limits set_limits jf v_max v_min a_max a_min q).left (goal_of q) _ _
+      (lost (tests_of limits) set_limits a_max a_min (band_of v_max v_max v_min) q.t (jerks_of signs q.t jf) 7 0
       (nodes_of q) o.0 i zero-le l e)
       o.1
 
   pub nan-time : (i : ℕ) → i < 7 → get_or q.t i nan ≡ nan
-      → (check_of signs limits set-limits jf v-max v-min a_max_lem a_min_lem q).ok ≡ false
-  nan-time i l e = by (check_of signs limits set-limits jf v-max v-min a_max_lem a_min_lem q).ok (never_yes i l e)
+      → (check_of signs limits set_limits jf v_max v_min a_max a_min q).ok ≡ false
+  nan-time i l e = by (check_of signs limits set_limits jf v_max v_min a_max a_min q).ok (never_yes i l e)
     where
       by : (b : Bool) → (b ≡ true → ⊥) → b ≡ false
       by true h = absurd (h refl)

@@ -54,7 +54,8 @@ module _ {X : Type 0} (f : ℕ → X → Step X) where
   rest k i x h = subst (λ (s : Step X). s.ok ≡ true) (first k i x h).1 h
 
   -- every step said yes, to some x
-  pub each_yes : (k i : ℕ) (x : X) → (run f k i x).ok ≡ true → (l : ℕ) → i ≤ l → l < i + k → (y : X) × ((f l y).ok ≡ true)
+  pub each_yes : (k i : ℕ) (x : X) → (run f k i x).ok ≡ true → (l : ℕ) → i ≤ l → l < i + k
+      → (y : X) × ((f l y).ok ≡ true)
   each_yes zero i x h l a b = absurd (never i l a b)
   each_yes (suc k) i x h l a b =
       elim (eq-or-lt_of_le a) [

@@ -61,9 +61,9 @@ held =
 -- all of it computes
 met : ((check_of UDDU Acc0Acc1Vel false #1 #2 (neg #2) #1 (neg #1) asked).ok ≡ true) × Within left
     × Residual 0 Acc0Acc1Vel left × Number #1 × Number #2 × Number (neg #1) × Number (neg #2)
-unfolding check_of sums_of step_of_sums run label_tests tests_of jerks_of phase_of node_of replaced_of zero_inside_of integrate_of
-    band_of accelerations_kept_of velocities_kept_of end_tests abs_of of_bits neg add sub mul div lt le fits
-    unit mag sign val motion lasts
+unfolding check_of sums_of step_of_sums run label_tests tests_of jerks_of phase_of node_of replaced_of zero_inside_of
+    integrate_of band_of accelerations_kept_of velocities_kept_of end_tests abs_of of_bits neg add sub mul div lt le
+    fits unit mag sign val motion lasts
 met = (
   refl,
   within (sized tt tt) (sized tt tt) (sized tt tt) (lit≤ tt) (sized tt tt) (sized tt tt) (sized tt tt) (sized tt tt)

@@ -44,7 +44,7 @@ pub record Carried (q q' : Profile) : Type 0 where
   pub af_is : q'.af ≡ q.af
   pub nodes : Begins (nodes_of q) (nodes_of q')
 
-pub record Yes (signs : ControlSigns) (limits : ReachedLimits) (jf v-max v-min a_max_lem a_min_lem : Float)
+pub record Yes (signs : ControlSigns) (limits : ReachedLimits) (jf v_max v_min a_max a_min : Float)
     (q q' : Profile) : Type 0 where
   pub carried : Carried q q'
   -- what is written
@@ -55,7 +55,7 @@ pub record Yes (signs : ControlSigns) (limits : ReachedLimits) (jf v-max v-min a
   -- what is tested
   pub not_negative : (i : ℕ) → i < 7 → lt (time q' i) #0 ≡ false
   pub not_refused : none_fails (label_tests (tests_of limits) q'.t q'.t_sum) ≡ true
-  pub at_end : none_fails (end_tests (nodes_of q') (goal_of q') (band_of v-max a_max_lem a_min_lem) (band_of v-max v-max v-min))
+  pub at_end : none_fails (end_tests (nodes_of q') (goal_of q') (band_of v_max a_max a_min) (band_of v_max v_max v_min))
       ≡ true
 
 -- ---- two tests that pass
@@ -80,43 +80,44 @@ times_yes t s h (suc i) l =
     w.1).0
 
 -- ---- the phases
-module _ (m : Tests) (set-limits : Bool) (a_max_lem a_min_lem : Float) (b : Band) (t j : List Float) where
+module _ (m : Tests) (set_limits : Bool) (a_max a_min : Float) (b : Band) (t j : List Float) where
   abbrev next : ℕ → Node → Node
   next i s =
       let w = step_of (get_or t i nan) (get_or j i nan) s in
-      record { a = replaced_of m set-limits a_max_lem a_min_lem i w.a; v = w.v; p = w.p }
+      record { a = replaced_of m set_limits a_max a_min i w.a; v = w.v; p = w.p }
 
-  phase_is : (i : ℕ) (n : Nodes) → (phase_of m set-limits a_max_lem a_min_lem b t j i n).left ≡ stored n (i + 1) (next i (at n i))
+  phase_is : (i : ℕ) (n : Nodes)
+      → (phase_of m set_limits a_max a_min b t j i n).left ≡ stored n (i + 1) (next i (at n i))
   unfolding phase_of node_of
   phase_is i n = refl
 
-  phases_begin : (n : Nodes) → Eight n → Begins n (run (phase_of m set-limits a_max_lem a_min_lem b t j) 7 0 n).left
-  phases_begin n = begins (phase_of m set-limits a_max_lem a_min_lem b t j) next phase_is 7 n
+  phases_begin : (n : Nodes) → Eight n → Begins n (run (phase_of m set_limits a_max a_min b t j) 7 0 n).left
+  phases_begin n = begins (phase_of m set_limits a_max a_min b t j) next phase_is 7 n
 
-module _ (m : Tests) (a_max_lem a_min_lem : Float) (b : Band) (t j : List Float) (n : Nodes) where
+module _ (m : Tests) (a_max a_min : Float) (b : Band) (t j : List Float) (n : Nodes) where
   abbrev ran : Step Nodes
-  ran = run (phase_of m false a_max_lem a_min_lem b t j) 7 0 n
+  ran = run (phase_of m false a_max a_min b t j) 7 0 n
 
   phases_step : Eight n → ran.ok ≡ true → (i : ℕ) → i < 7
       → at ran.left (suc i) ≡ stepped m i (get_or t i nan) (get_or j i nan) (at ran.left i)
   unfolding replaced_of
   phases_step o h i l =
-      subst (λ (k : ℕ). at ran.left k ≡ next m false a_max_lem a_min_lem b t j i (at ran.left i)) (add-one i)
-      (follows (phase_of m false a_max_lem a_min_lem b t j) (next m false a_max_lem a_min_lem b t j) (phase_is m false a_max_lem a_min_lem b t j)
-      7 0 n o (le_refl 7) h i zero-le l)
+      subst (λ (k : ℕ). at ran.left k ≡ next m false a_max a_min b t j i (at ran.left i)) (add-one i)
+      (follows (phase_of m false a_max a_min b t j) (next m false a_max a_min b t j)
+      (phase_is m false a_max a_min b t j) 7 0 n o (le_refl 7) h i zero-le l)
 
 -- ---- all of it
 eight_of : (q : Profile) → Held q → Eight (nodes_of q)
 eight_of q h = record { eight_a = h.eight_a; eight_v = h.eight_v; eight_p = h.eight_p }
 
-module _ (signs : ControlSigns) (limits : ReachedLimits) (jf v-max v-min a_max_lem a_min_lem : Float) (q : Profile)
+module _ (signs : ControlSigns) (limits : ReachedLimits) (jf v_max v_min a_max a_min : Float) (q : Profile)
     (h : Held q) where
-  pub check_carries : (set-limits : Bool)
-      → Carried q (check_of signs limits set-limits jf v-max v-min a_max_lem a_min_lem q).profile
-  check_carries set-limits =
-      let begun = phases_begin (tests_of limits) set-limits a_max_lem a_min_lem (band_of v-max v-max v-min) q.t
+  pub check_carries : (set_limits : Bool)
+      → Carried q (check_of signs limits set_limits jf v_max v_min a_max a_min q).profile
+  check_carries set_limits =
+      let begun = phases_begin (tests_of limits) set_limits a_max a_min (band_of v_max v_max v_min) q.t
       (jerks_of signs q.t jf) (nodes_of q) (eight_of q h) in
-      leaves signs limits set-limits jf v-max v-min a_max_lem a_min_lem q (λ (z : Profile). Carried q z)
+      leaves signs limits set_limits jf v_max v_min a_max a_min q (λ (z : Profile). Carried q z)
       (record {
         t_is = refl;
         pf_is = refl;
@@ -127,21 +128,21 @@ module _ (signs : ControlSigns) (limits : ReachedLimits) (jf v-max v-min a_max_l
       (record { t_is = refl; pf_is = refl; vf_is = refl; af_is = refl; nodes = begun })
       (record { t_is = refl; pf_is = refl; vf_is = refl; af_is = refl; nodes = begun })
 
-  pub check_yes : (check_of signs limits false jf v-max v-min a_max_lem a_min_lem q).ok ≡ true
-      → Yes signs limits jf v-max v-min a_max_lem a_min_lem q
-      (check_of signs limits false jf v-max v-min a_max_lem a_min_lem q).profile
+  pub check_yes : (check_of signs limits false jf v_max v_min a_max a_min q).ok ≡ true
+      → Yes signs limits jf v_max v_min a_max a_min q
+      (check_of signs limits false jf v_max v_min a_max a_min q).profile
   check_yes said =
-      let is = yes_leaves signs limits false jf v-max v-min a_max_lem a_min_lem q said in
-      let first = times_pass signs limits false jf v-max v-min a_max_lem a_min_lem q said in
-      let last = others_pass signs limits false jf v-max v-min a_max_lem a_min_lem q said in
-      subst (λ (z : Profile). Yes signs limits jf v-max v-min a_max_lem a_min_lem q z) (sym is)
+      let is = yes_leaves signs limits false jf v_max v_min a_max a_min q said in
+      let first = times_pass signs limits false jf v_max v_min a_max a_min q said in
+      let last = others_pass signs limits false jf v_max v_min a_max a_min q said in
+      subst (λ (z : Profile). Yes signs limits jf v_max v_min a_max a_min q z) (sym is)
       (record {
         carried = subst (λ (z : Profile). Carried q z) is (check_carries false);
         j_is = refl;
         limits_is = refl;
         signs_is = refl;
         step =
-            phases_step (tests_of limits) a_max_lem a_min_lem (band_of v-max v-max v-min) q.t (jerks_of signs q.t jf)
+            phases_step (tests_of limits) a_max a_min (band_of v_max v_max v_min) q.t (jerks_of signs q.t jf)
             (nodes_of q) (eight_of q h) last.0;
         not_negative = times_yes q.t q.t_sum first.0;
         not_refused = first.1;

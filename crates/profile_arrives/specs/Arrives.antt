@@ -17,8 +17,8 @@ infix 60 ◌over◌
 abbrev pub ◌over◌ : ℕ → ℕ → Fraction
 m over d = record { m = m; d = d }
 
--- K is `per_p`, `per_v` or `per_a`: a float x is K ⊙ val x in the units of the exact motion, and the number 1 is K * unit
--- there.
+-- K is `per_p`, `per_v` or `per_a`: a float x is K ⊙ val x in the units of the exact motion, and the number 1 is
+-- K * unit there.
 -- The exact number X is within f of the float x: |d X - d x| ≤ m.
 abbrev pub At : Fraction → ℕ → D → Float → Type 0
 At f K X x = Near (f.d ⊙ X) (f.d ⊙ (K ⊙ val x)) (f.m * (K * unit))
@@ -38,20 +38,20 @@ pub record Distances : Type 0 where
 
 -- The exact motion of the profile q ends at its goal, keeps between its velocity limits after phases 2 to 5 and between
 -- its acceleration limits after phases 0, 2 and 4, each within w.
-pub record Arrives (w : Distances) (v-max v-min a_max_lem a_min_lem : Float) (q : Profile) : Type 0 where
+pub record Arrives (w : Distances) (v_max v_min a_max a_min : Float) (q : Profile) : Type 0 where
   pub position : At w.position per_p (after q 6).p q.pf
   pub velocity : At w.velocity per_v (after q 6).v q.vf
   pub acceleration : At w.acceleration per_a (after q 6).a q.af
-  pub velocity_2 : Between w.velocity_limit per_v (lower v-max v-max v-min) (after q 2).v (upper v-max v-max v-min)
-  pub velocity_3 : Between w.velocity_limit per_v (lower v-max v-max v-min) (after q 3).v (upper v-max v-max v-min)
-  pub velocity_4 : Between w.velocity_limit per_v (lower v-max v-max v-min) (after q 4).v (upper v-max v-max v-min)
-  pub velocity_5 : Between w.velocity_limit per_v (lower v-max v-max v-min) (after q 5).v (upper v-max v-max v-min)
-  pub acceleration_0 : Between w.acceleration_limit per_a (lower v-max a_max_lem a_min_lem) (after q 0).a
-      (upper v-max a_max_lem a_min_lem)
-  pub acceleration_2 : Between w.acceleration_limit per_a (lower v-max a_max_lem a_min_lem) (after q 2).a
-      (upper v-max a_max_lem a_min_lem)
-  pub acceleration_4 : Between w.acceleration_limit per_a (lower v-max a_max_lem a_min_lem) (after q 4).a
-      (upper v-max a_max_lem a_min_lem)
+  pub velocity_2 : Between w.velocity_limit per_v (lower v_max v_max v_min) (after q 2).v (upper v_max v_max v_min)
+  pub velocity_3 : Between w.velocity_limit per_v (lower v_max v_max v_min) (after q 3).v (upper v_max v_max v_min)
+  pub velocity_4 : Between w.velocity_limit per_v (lower v_max v_max v_min) (after q 4).v (upper v_max v_max v_min)
+  pub velocity_5 : Between w.velocity_limit per_v (lower v_max v_max v_min) (after q 5).v (upper v_max v_max v_min)
+  pub acceleration_0 : Between w.acceleration_limit per_a (lower v_max a_max a_min) (after q 0).a
+      (upper v_max a_max a_min)
+  pub acceleration_2 : Between w.acceleration_limit per_a (lower v_max a_max a_min) (after q 2).a
+      (upper v_max a_max a_min)
+  pub acceleration_4 : Between w.acceleration_limit per_a (lower v_max a_max a_min) (after q 4).a
+      (upper v_max a_max a_min)
 
 -- the demand: 2e-8 of the position and the velocity, 2e-10 of the acceleration, 1e-8 of the velocity limits, 1e-10 of
 -- the acceleration limits

@@ -34,10 +34,10 @@ after q i = exact q (suc i)
 
 -- the upper limit is max where v_max is above 0, else min; the lower limit is the other
 abbrev pub upper : Float → Float → Float → Float
-upper v-max max min = cond (lt #0 v-max) max min
+upper v_max max min = cond (lt #0 v_max) max min
 
 abbrev pub lower : Float → Float → Float → Float
-lower v-max max min = cond (lt #0 v-max) min max
+lower v_max max min = cond (lt #0 v_max) min max
 
 -- Arrays of eight, and f64s wherever `check` reads: so it is with every profile of the Rust.
 pub record Held (q : Profile) : Type 0 where

@@ -103,43 +103,43 @@ module _ {t : ℕ → Float} (tf : Float) (f : T (fits binary64 tf)) where
       early t0 t1 t2 t3 z y f e = omega arith
 
 -- ---- the attempts
-module _ (tf p0 v0 a0 pf vf af a_max_lem a_min_lem j : Float) (f : T (fits binary64 tf)) {t : ℕ → Float} where
+module _ (tf p0 v0 a0 pf vf af a_max a_min j : Float) (f : T (fits binary64 tf)) {t : ℕ → Float} where
   pub acc0_acc1_vel_uddu_lasts : (h1 t1 : Float)
-      → Accepted t (acc0_acc1_vel_uddu_times (new_of tf p0 v0 a0 pf vf af j) a_max_lem a_min_lem j h1 t1) → Lasts t tf
+      → Accepted t (acc0_acc1_vel_uddu_times (new_of tf p0 v0 a0 pf vf af j) a_max a_min j h1 t1) → Lasts t tf
   unfolding acc0_acc1_vel_uddu_times new_of
   acc0_acc1_vel_uddu_lasts h1 t1 a =
-      vel_lasts tf f ((neg a0 ⊕ a_max_lem) ⊘ j) t1 (a_max_lem ⊘ j) ((a_min_lem ⊖ a_max_lem ⊕ h1) ⊘ (#2 ⊗ j)) (neg a_min_lem ⊘ j) (af ⊘ j)
+      vel_lasts tf f ((neg a0 ⊕ a_max) ⊘ j) t1 (a_max ⊘ j) ((a_min ⊖ a_max ⊕ h1) ⊘ (#2 ⊗ j)) (neg a_min ⊘ j) (af ⊘ j)
       (div-fits binary64 af j) a
 
   pub acc0_acc1_vel_udud_lasts : (t1 t3 : Float)
-      → Accepted t (acc0_acc1_vel_udud_times (new_of tf p0 v0 a0 pf vf af j) a_max_lem j t1 t3) → Lasts t tf
+      → Accepted t (acc0_acc1_vel_udud_times (new_of tf p0 v0 a0 pf vf af j) a_max j t1 t3) → Lasts t tf
   unfolding acc0_acc1_vel_udud_times new_of sub
   acc0_acc1_vel_udud_lasts t1 t3 a =
-      vel_lasts tf f ((neg a0 ⊕ a_max_lem) ⊘ j) t1 (a_max_lem ⊘ j) t3 (a_max_lem ⊘ j) (neg (af ⊘ j))
+      vel_lasts tf f ((neg a0 ⊕ a_max) ⊘ j) t1 (a_max ⊘ j) t3 (a_max ⊘ j) (neg (af ⊘ j))
       (neg-fits binary64 (af ⊘ j) (div-fits binary64 af j)) a
 
   pub acc0_acc1_rest-lasts : (jf t1 : Float)
-      → Accepted t (acc0_acc1_rest_times (new_of tf p0 v0 a0 pf vf af j) a_max_lem a_min_lem jf t1) → Lasts t tf
+      → Accepted t (acc0_acc1_rest_times (new_of tf p0 v0 a0 pf vf af j) a_max a_min jf t1) → Lasts t tf
   unfolding acc0_acc1_rest_times new_of
-  acc0_acc1_rest-lasts jf t1 a = rest-lasts tf f (a_max_lem ⊘ jf) t1 (neg a_min_lem ⊘ jf) a
+  acc0_acc1_rest-lasts jf t1 a = rest-lasts tf f (a_max ⊘ jf) t1 (neg a_min ⊘ jf) a
 
   pub acc0_acc1_uddu_lasts : (jf t1 : Float)
-      → Accepted t (acc0_acc1_uddu_times (new_of tf p0 v0 a0 pf vf af j) a_max_lem a_min_lem jf t1) → Lasts t tf
+      → Accepted t (acc0_acc1_uddu_times (new_of tf p0 v0 a0 pf vf af j) a_max a_min jf t1) → Lasts t tf
   unfolding acc0_acc1_uddu_times new_of
   acc0_acc1_uddu_lasts jf t1 a =
-      uddu_lasts tf f ((a_max_lem ⊖ a0) ⊘ jf) t1 (a_max_lem ⊘ jf) (neg a_min_lem ⊘ jf) (af ⊘ jf) (div-fits binary64 af jf) a
+      uddu_lasts tf f ((a_max ⊖ a0) ⊘ jf) t1 (a_max ⊘ jf) (neg a_min ⊘ jf) (af ⊘ jf) (div-fits binary64 af jf) a
 
   pub acc0_second_lasts : (h0 h1 t1 : Float)
-      → Accepted t (acc0_second_times (new_of tf p0 v0 a0 pf vf af j) a_max_lem j h0 h1 t1) → Lasts t tf
+      → Accepted t (acc0_second_times (new_of tf p0 v0 a0 pf vf af j) a_max j h0 h1 t1) → Lasts t tf
   unfolding acc0_second_times new_of
   acc0_second_lasts h0 h1 t1 a =
-      second_lasts tf f ((neg a0 ⊕ a_max_lem) ⊘ j) t1 (neg (af ⊖ a0 ⊕ h0 ⊘ h1) ⊘ (#2 ⊗ j) ⊕ tf ⊘ #2 ⊖ t1 ⊘ #2)
+      second_lasts tf f ((neg a0 ⊕ a_max) ⊘ j) t1 (neg (af ⊖ a0 ⊕ h0 ⊘ h1) ⊘ (#2 ⊗ j) ⊕ tf ⊘ #2 ⊖ t1 ⊘ #2)
       (h0 ⊘ (j ⊗ h1)) a
 
   pub acc0_third-lasts : (h0a h1 h2 : Float)
-      → Accepted t (acc0_third_times (new_of tf p0 v0 a0 pf vf af j) a_max_lem j h0a h1 h2) → Lasts t tf
+      → Accepted t (acc0_third_times (new_of tf p0 v0 a0 pf vf af j) a_max j h0a h1 h2) → Lasts t tf
   unfolding acc0_third_times new_of
   acc0_third-lasts h0a h1 h2 a =
-      let t0 = (neg a0 ⊕ a_max_lem) ⊘ j in
+      let t0 = (neg a0 ⊕ a_max) ⊘ j in
       let t3 = (#2 ⊗ h0a ⊖ h1) ⊘ h2 in
       third-lasts tf f t0 ((af ⊖ a0) ⊘ j ⊖ #2 ⊗ t0 ⊖ t3 ⊕ tf) (neg (#2 ⊗ h0a ⊕ h1) ⊘ h2) t3 a

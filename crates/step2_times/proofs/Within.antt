@@ -81,11 +81,11 @@ module _ {t : ℕ → Float} {x : Times} (a : Accepted t x) where
       from-none a b c d e f g = omega arith
 
   -- what the attempt's roundings come to is the sum less tf
-  pub lasts_of : {tf : Float} {y z : D} {β : ℕ} → Off unit y z β → Same (y ⊟ z) (sum_of x ⊟ val tf) → T (leb β roundings)
-      → Lasts t tf
+  pub lasts_of : {tf : Float} {y z : D} {β : ℕ} → Off unit y z β → Same (y ⊟ z) (sum_of x ⊟ val tf)
+      → T (leb β roundings) → Lasts t tf
   lasts_of {tf} {y} {z} o e h =
-      let w = off_within roundings (off_as (lasts t 7) (val tf) o (ends (lasts t 7) (sum_of x) y z (val tf) lasts-sum e))
-      h in
+      let w = off_within roundings
+      (off_as (lasts t 7) (val tf) o (ends (lasts t 7) (sum_of x) y z (val tf) lasts-sum e)) h in
       record { err = w.err; near = w.near; bound = w.bound }
     where
       ends : (l s y z f : D) → Same l s → Same (y ⊟ z) (s ⊟ f) → Same (y ⊟ z) (l ⊟ f)

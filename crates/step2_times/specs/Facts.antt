@@ -11,13 +11,13 @@ use Rattle.rounding.specs.Step.{Replaced}
 use Rattle.step2_solver.specs.declared.Times.{Times}
 
 -- the numbers of a line that the time formulas name themselves: finite, as its sixth question asks
-pub record FormulaNumbers (tf a0 af a_max_lem a_min_lem j_max_lem : Float) : Type 0 where
+pub record FormulaNumbers (tf a0 af a_max a_min j_max : Float) : Type 0 where
   pub of_tf : Number tf
   pub of_a0 : Number a0
   pub of_af : Number af
-  pub of_a_max : Number a_max_lem
-  pub of_a_min : Number a_min_lem
-  pub of_j_max : Number j_max_lem
+  pub of_a_max : Number a_max
+  pub of_a_min : Number a_min
+  pub of_j_max : Number j_max
 
 -- t are the times x of an attempt, as a yes leaves them: finite and not below 0. Together they are 8 seconds at most.
 pub record Accepted (t : ℕ → Float) (x : Times) : Type 0 where
