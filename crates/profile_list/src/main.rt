@@ -38,7 +38,7 @@ fn send_record(output: &mut impl Write, c: Checked) -> io::Result<()> {
     output.write_all(&reply)
 }
 
-// The one function that makes a reference to a record: its proof is by hand.
+// The one function that makes a reference to a record.
 fn lent(
     mut p: Profile,
     p0: f64,
