@@ -1,9 +1,0 @@
--- `time_acc0_acc1` by value is `asked_of Acc0Acc1`. Assumes nothing.
-use Rattle.position_third_step2.proofs.time_acc0_acc1.Statement.{statement}
-use Rattle.position_third_step2.proofs.time_acc0_acc1.Tie as tie
-
-returns : tie.Need-returns
-returns c = c.asked.ensures
-
-pub time-acc0-acc1-spec : {M : Type 1} → statement M
-time-acc0-acc1-spec = tie.close (tie.spec (λ c κs. tt) returns)

@@ -1,8 +1,0 @@
--- `second_times` is `acc0_second_times`: the same operations on what its calls give. Assumes nothing.
-use Rattle.time_acc0.specs.TimeAcc0.{acc0_second_times}
-use Rattle.time_acc0.proofs.second_times.Statement.{statement}
-use Rattle.time_acc0.proofs.second_times.Tie as tie
-
-pub second-times-spec : {M : Type 1} → statement M
-unfolding acc0_second_times
-second-times-spec = tie.close (tie.spec (λ c κs. tt) (λ c. rw c.times-of.ensures))

@@ -1,8 +1,0 @@
--- `rest_times` is `acc0_acc1_rest_times`: the same operations on what its calls give. Assumes nothing.
-use Rattle.time_acc0_acc1.specs.TimeAcc0Acc1.{acc0_acc1_rest_times}
-use Rattle.time_acc0_acc1.proofs.rest_times.Statement.{statement}
-use Rattle.time_acc0_acc1.proofs.rest_times.Tie as tie
-
-pub rest-times-spec : {M : Type 1} → statement M
-unfolding acc0_acc1_rest_times
-rest-times-spec = tie.close (tie.spec (λ c κs. tt) (λ c. rw c.times-of.ensures))

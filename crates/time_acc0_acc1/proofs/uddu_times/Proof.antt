@@ -1,8 +1,0 @@
--- `uddu_times` is `acc0_acc1_uddu_times`: the same operations on what its calls give. Assumes nothing.
-use Rattle.time_acc0_acc1.specs.TimeAcc0Acc1.{acc0_acc1_uddu_times}
-use Rattle.time_acc0_acc1.proofs.uddu_times.Statement.{statement}
-use Rattle.time_acc0_acc1.proofs.uddu_times.Tie as tie
-
-pub uddu-times-spec : {M : Type 1} → statement M
-unfolding acc0_acc1_uddu_times
-uddu-times-spec = tie.close (tie.spec (λ c κs. tt) (λ c. rw c.times-of.ensures))

@@ -1,0 +1,13 @@
+-- `uddu_h1` is `acc0_acc1_vel_uddu_h1`: the same operations on what its calls give. Assumes nothing.
+use Rattle.time_acc0_acc1_vel.specs.TimeAcc0Acc1Vel.{acc0_acc1_vel_uddu_h1}
+use Rattle.time_acc0_acc1_vel.proofs.uddu_h1.Goals as goal
+
+pub abs-requires : goal.abs-requires
+unfolding acc0_acc1_vel_uddu_h1
+abs-requires c =
+    tt
+
+pub returns : goal.returns
+unfolding acc0_acc1_vel_uddu_h1
+returns c =
+    rw c.abs.ensures

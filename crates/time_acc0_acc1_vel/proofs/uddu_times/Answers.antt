@@ -1,0 +1,13 @@
+-- `uddu_times` is `acc0_acc1_vel_uddu_times`: the same operations on what its calls give. Assumes nothing.
+use Rattle.time_acc0_acc1_vel.specs.TimeAcc0Acc1Vel.{acc0_acc1_vel_uddu_times}
+use Rattle.time_acc0_acc1_vel.proofs.uddu_times.Goals as goal
+
+pub times_of-requires : goal.times_of-requires
+unfolding acc0_acc1_vel_uddu_times
+times_of-requires c =
+    tt
+
+pub returns : goal.returns
+unfolding acc0_acc1_vel_uddu_times
+returns c =
+    rw c.times_of.ensures
