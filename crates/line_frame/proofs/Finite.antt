@@ -3,7 +3,6 @@
 -- Assumes nothing.
 use mathlib.Core.Path.{◌≡◌, refl, sym, ap, ◌∙◌}
 use mathlib.Core.Bool.{Bool, true, false, cond, true≢false}
-use Rattle.step2_solver.specs.declared.Move.{Move}
 use Rattle.line_frame.specs.declared.FiniteCheck.{FiniteCheck}
 use Rattle.line_frame.specs.declared.FiniteMove.{FiniteMove}
 use Rattle.line_frame.specs.Frame.{Frame}

@@ -3,9 +3,8 @@
 use mathlib.Core.Path.{◌≡◌, refl, sym, ◌∙◌}
 use mathlib.Core.Bool.{Bool, true, false, not, ◌&&◌, and_assoc, and-true, true≢false}
 use Prim.Native.Nat.{ℕ, zero, suc, ◌+◌, ◌*◌, ◌-◌, ◌%◌, ◌≤◌, ◌<◌}
-use native.Mathlib.Nat.{add_assoc}
 use native.Mathlib.Omega.{arith}
-use lib.Dec.{T, ltb}
+use lib.Dec.{T}
 use lib.Ieee.{binary64, of_bits, nan_bits}
 use lib.Ieee.Scale.{finite}
 use borrow.Author.Tests.{ltb-true}
@@ -27,7 +26,8 @@ module _ (at : Frame) (from n i : ℕ) where
       let e : n - i ≡ suc (n - (i + 1)) = omega arith in
       let f : from + 8 * (i + 1) ≡ (from + 8 * i) + 8 = omega arith in
       rw (e, f)
-      (and_assoc ok (finite (number_at at (from + 8 * i))) (all_finite_of (numbers_at at (from + 8 * i + 8) (n - (i + 1)))))
+      (and_assoc ok (finite (number_at at (from + 8 * i)))
+      (all_finite_of (numbers_at at (from + 8 * i + 8) (n - (i + 1)))))
 
   pub done : (ok : Bool) → n ≤ i → ok ≡ ok && rest i
   done ok h =

@@ -92,7 +92,8 @@ finite_check_of at =
     cond (check_finite at) (record { ok = true; x = check_numbers_of at }) (record { ok = false; x = zero_check_of })
 
 unfoldable pub finite_move_of : Frame → FiniteMove
-finite_move_of at = cond (move_finite at) (record { ok = true; x = move_of at }) (record { ok = false; x = zero_move_of })
+finite_move_of at =
+    cond (move_finite at) (record { ok = true; x = move_of at }) (record { ok = false; x = zero_move_of })
 
 -- The root answer from place i on: a count and three numbers. Count 0 means that the first number is the cube root.
 unfoldable pub root_answer_of : Frame → ℕ → RootAnswer

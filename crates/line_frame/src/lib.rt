@@ -1,5 +1,6 @@
 // A line's frame, zeros after its end: the numbers in it by their names.
 #![tactic(auto)]
+
 mod reading;
 
 ghost use Rattle.std.specs.Prelude.{◌≡◌, true, ◌+◌, ◌≤◌};

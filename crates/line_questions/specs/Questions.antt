@@ -72,7 +72,10 @@ AllYes (q ∷ qs) = (q.yes ≡ true) × AllYes qs
 -- ---- who is asked what
 abbrev pub shape_questions : Shape → Frame → List Question
 shape_questions shape at =
-    ask 5 (counts_fit_of shape at) ∷ ask 6 (move_finite at) ∷ ask 7 (counts_suit_of shape (quartics_at shape at) at) ∷ []
+    ask 5 (counts_fit_of shape at)
+    ∷ ask 6 (move_finite at)
+    ∷ ask 7 (counts_suit_of shape (quartics_at shape at) at)
+    ∷ []
 
 -- what each kind is asked of its frame, between the length and the places
 unfoldable pub questions_of : Asks → Frame → List Question

@@ -1,6 +1,7 @@
 // The questions to a line, each a function of its own. Which of them a kind is asked, and in which order,
 // is `questions_of`.
 #![tactic(auto)]
+
 ghost use Rattle.std.specs.Prelude.{◌≡◌};
 ghost use Rattle.line_frame.specs.Frame.{byte_at};
 ghost use Rattle.line_questions.specs.Suits.{suits, need_of_quartic, both_suit_of};
