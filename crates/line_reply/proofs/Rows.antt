@@ -43,7 +43,8 @@ length-numbers (x ∷ xs) = let h : length (numbers_bytes xs) ≡ 8 * length xs 
 
 -- ---- a row of numbers: what is still to be stored from here is the whole from the start
 pub turn : (reply : List ℕ) (at : ℕ) (row : List Float) (i : ℕ) (d : Float) → i < length row
-    → sets (sets reply (at + 8 * i) (number_bytes_of (get_or row i d))) (at + 8 * (i + 1)) (numbers_bytes (drop (i + 1) row))
+    → sets (sets reply (at + 8 * i) (number_bytes_of (get_or row i d))) (at + 8 * (i + 1))
+    (numbers_bytes (drop (i + 1) row))
     ≡ sets reply (at + 8 * i) (numbers_bytes (drop i row))
 turn reply at row i d h =
     let e : at + 8 * (i + 1) ≡ (at + 8 * i) + 8 = omega arith in

@@ -1,5 +1,6 @@
 // A reply's characters, into lent places.
 #![tactic(auto)]
+
 mod quartics;
 mod record;
 mod stores;
