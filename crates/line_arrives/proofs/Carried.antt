@@ -78,7 +78,7 @@ module _ (line reply : List ℕ) {q : Profile} (s : Starts (move_in line) q) (t 
           acceleration = moved (λ (x : Moving). At w.acceleration per_a x.a m.af) 6 (lit≤ tt)
               (subst (λ (x : Float). At w.acceleration per_a (after q 6).a x) s.af_is r.acceleration);
           lasting = subst (λ (d : D). Close f d m.tf) (lasts_agrees 7 t) a.duration;
-          velocity-limits = two_to_five (λ (i : ℕ). VelocityKept w.velocity_limit m (state_after line reply i).v)
+          velocity_limits = two_to_five (λ (i : ℕ). VelocityKept w.velocity_limit m (state_after line reply i).v)
               (moved (λ (x : Moving). VelocityKept w.velocity_limit m x.v) 2 (lit≤ tt) r.velocity_2)
               (moved (λ (x : Moving). VelocityKept w.velocity_limit m x.v) 3 (lit≤ tt) r.velocity_3)
               (moved (λ (x : Moving). VelocityKept w.velocity_limit m x.v) 4 (lit≤ tt) r.velocity_4)

@@ -81,7 +81,7 @@ pub record LineArrives (w : Distances) (s : Fraction) (line reply : List ℕ) : 
   pub velocity : At w.velocity per_v (state_after line reply 6).v (move_in line).vf
   pub acceleration : At w.acceleration per_a (state_after line reply 6).a (move_in line).af
   pub lasting : Close s (duration reply) (move_in line).tf
-  pub velocity-limits : (i : ℕ) → 2 ≤ i → i ≤ 5
+  pub velocity_limits : (i : ℕ) → 2 ≤ i → i ≤ 5
       → VelocityKept w.velocity_limit (move_in line) (state_after line reply i).v
   pub acceleration_0 : AccelerationKept w.acceleration_limit (move_in line) (state_after line reply 0).a
   pub acceleration_2 : AccelerationKept w.acceleration_limit (move_in line) (state_after line reply 2).a

@@ -24,17 +24,17 @@ use Rattle.step2_over_roots.specs.OverRoots.{over_roots}
 use Rattle.position_third_step2.specs.Shape.{attempts_of}
 
 pub record Each (P : Trial → Type 0) (Q : Float → Type 0) (s : PositionThirdOrderStep2) (l : Limits) : Type 0 where
-  pub acc0_acc1_vel_uddu_lem : P (acc0_acc1_vel_uddu s l)
-  pub acc0_acc1_vel_udud_lem : P (acc0_acc1_vel_udud s l)
-  pub acc1_vel_uddu_lem : (root : Float) → Q root → P (acc1_vel_uddu s l (acc1_vel_uddu_window s l) root)
-  pub acc1_vel_udud_lem : (root : Float) → Q root → P (acc1_vel_udud s l (acc1_vel_udud_window s l) root)
-  pub acc0_vel_uddu_lem : (root : Float) → Q root → P (acc0_vel_uddu s l (acc0_vel_uddu_window s l) root)
-  pub acc0_vel_udud_lem : (root : Float) → Q root → P (acc0_vel_udud s l (acc0_vel_udud_window s l) root)
-  pub acc0_acc1_lem : P (acc0_acc1_of s l)
-  pub acc0_first_lem : P (acc0_first s l)
-  pub acc0_second_lem : P (acc0_second s l)
-  pub acc0_third_lem : P (acc0_third s l)
-  pub rest_to_rest_lem : P (rest_to_rest_of s l)
+  pub of_acc0_acc1_vel_uddu : P (acc0_acc1_vel_uddu s l)
+  pub of_acc0_acc1_vel_udud : P (acc0_acc1_vel_udud s l)
+  pub of_acc1_vel_uddu : (root : Float) → Q root → P (acc1_vel_uddu s l (acc1_vel_uddu_window s l) root)
+  pub of_acc1_vel_udud : (root : Float) → Q root → P (acc1_vel_udud s l (acc1_vel_udud_window s l) root)
+  pub of_acc0_vel_uddu : (root : Float) → Q root → P (acc0_vel_uddu s l (acc0_vel_uddu_window s l) root)
+  pub of_acc0_vel_udud : (root : Float) → Q root → P (acc0_vel_udud s l (acc0_vel_udud_window s l) root)
+  pub of_acc0_acc1 : P (acc0_acc1_of s l)
+  pub of_acc0_first : P (acc0_first s l)
+  pub of_acc0_second : P (acc0_second s l)
+  pub of_acc0_third : P (acc0_third s l)
+  pub of_rest_to_rest : P (rest_to_rest_of s l)
 
 -- Q is known of the roots that an answer gives, whatever the quartic
 abbrev pub OfRoots : (Float → Type 0) → RootAnswer → Type 0
@@ -61,11 +61,11 @@ module _ (P : Trial → Type 0) (Q : Float → Type 0) where
   pub all_attempts : {s : PositionThirdOrderStep2} {l : Limits} → Each P Q s l → (shape : Shape) (q : Quartics)
       (first second : RootAnswer) → OfRoots Q first → OfRoots Q second
       → Every P (attempts_of shape s l q first second)
-  all_attempts h Acc0Acc1Vel q first second e e' = (h.acc0_acc1_vel_uddu_lem, (h.acc0_acc1_vel_udud_lem, tt))
-  all_attempts h Acc1Vel q first second e e' = at_both _ _ h.acc1_vel_uddu_lem h.acc1_vel_udud_lem q first second e e'
+  all_attempts h Acc0Acc1Vel q first second e e' = (h.of_acc0_acc1_vel_uddu, (h.of_acc0_acc1_vel_udud, tt))
+  all_attempts h Acc1Vel q first second e e' = at_both _ _ h.of_acc1_vel_uddu h.of_acc1_vel_udud q first second e e'
   all_attempts {s} {l} h Acc0Vel q first second e e' =
       unless (acc0_vel_too_short s l.a_max l.j_max) _
-      (at_both _ _ h.acc0_vel_uddu_lem h.acc0_vel_udud_lem q first second e e')
-  all_attempts h Acc0Acc1 q first second e e' = (h.acc0_acc1_lem, tt)
-  all_attempts h Acc0 q first second e e' = (h.acc0_first_lem, (h.acc0_second_lem, (h.acc0_third_lem, tt)))
-  all_attempts h RestToRest q first second e e' = (h.rest_to_rest_lem, tt)
+      (at_both _ _ h.of_acc0_vel_uddu h.of_acc0_vel_udud q first second e e')
+  all_attempts h Acc0Acc1 q first second e e' = (h.of_acc0_acc1, tt)
+  all_attempts h Acc0 q first second e e' = (h.of_acc0_first, (h.of_acc0_second, (h.of_acc0_third, tt)))
+  all_attempts h RestToRest q first second e e' = (h.of_rest_to_rest, tt)

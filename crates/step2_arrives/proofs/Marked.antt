@@ -36,7 +36,8 @@ use Rattle.step2_solver.specs.Window.{outside_of}
 use Rattle.step2_solver.specs.Trials.{the_trial, no_trial_of}
 use Rattle.step2_quartics.specs.declared.Quartics.{Quartics}
 use Rattle.time_acc0_acc1_vel.specs.TimeAcc0Acc1Vel.{acc0_acc1_vel_uddu_applies}
-use Rattle.time_acc0_acc1_vel.specs.TimeAcc0Acc1Vel.{acc0_acc1_vel_uddu_h1, acc0_acc1_vel_uddu_times, acc0_acc1_vel_uddu}
+use Rattle.time_acc0_acc1_vel.specs.TimeAcc0Acc1Vel.{acc0_acc1_vel_uddu_h1, acc0_acc1_vel_uddu_times}
+use Rattle.time_acc0_acc1_vel.specs.TimeAcc0Acc1Vel.{acc0_acc1_vel_uddu}
 use Rattle.time_acc0_acc1_vel.specs.TimeAcc0Acc1Vel.{acc0_acc1_vel_udud_applies, acc0_acc1_vel_udud}
 use Rattle.time_acc1_vel.specs.TimeAcc1Vel.{acc1_vel_uddu, acc1_vel_udud}
 use Rattle.time_acc0_vel.specs.TimeAcc0Vel.{acc0_vel_uddu, acc0_vel_udud}
@@ -113,19 +114,21 @@ module _ (s : PositionThirdOrderStep2) (l : Limits) where
   unfolding acc1_vel_uddu acc1_vel_udud acc0_vel_uddu acc0_vel_udud
   each =
       record {
-        acc0_acc1_vel_uddu_lem = acc0_acc1_vel_uddu_lem;
-        acc0_acc1_vel_udud_lem = acc0_acc1_vel_udud_lem;
-        acc1_vel_uddu_lem = λ root z. inside _ root _ _ _ _;
-        acc1_vel_udud_lem = λ root z. inside _ root _ _ _ _;
-        acc0_vel_uddu_lem = λ root z. inside _ root _ _ _ _;
-        acc0_vel_udud_lem = λ root z. inside _ root _ _ _ _;
-        acc0_acc1_lem =
-            either (acc0_acc1_rest_applies s) (acc0_acc1_rest s l) (acc0_acc1_uddu s l) acc0_acc1_rest_lem acc0_acc1_uddu_lem;
-        acc0_first_lem = acc0_first_lem;
-        acc0_second_lem = acc0_second_lem;
-        acc0_third_lem = acc0_third_lem;
-        rest_to_rest_lem =
-            either (acc0_acc1_rest_applies s) (rest_to_rest_trial s l) (acc0_acc1_uddu s l) rest_to_rest_lem acc0_acc1_uddu_lem;
+        of_acc0_acc1_vel_uddu = acc0_acc1_vel_uddu_lem;
+        of_acc0_acc1_vel_udud = acc0_acc1_vel_udud_lem;
+        of_acc1_vel_uddu = λ root z. inside _ root _ _ _ _;
+        of_acc1_vel_udud = λ root z. inside _ root _ _ _ _;
+        of_acc0_vel_uddu = λ root z. inside _ root _ _ _ _;
+        of_acc0_vel_udud = λ root z. inside _ root _ _ _ _;
+        of_acc0_acc1 =
+            either (acc0_acc1_rest_applies s) (acc0_acc1_rest s l) (acc0_acc1_uddu s l) acc0_acc1_rest_lem
+            acc0_acc1_uddu_lem;
+        of_acc0_first = acc0_first_lem;
+        of_acc0_second = acc0_second_lem;
+        of_acc0_third = acc0_third_lem;
+        of_rest_to_rest =
+            either (acc0_acc1_rest_applies s) (rest_to_rest_trial s l) (acc0_acc1_uddu s l) rest_to_rest_lem
+            acc0_acc1_uddu_lem;
       }
 
 -- ---- what comes of such an attempt, on any profile
@@ -187,6 +190,7 @@ module _ (shape : Shape) (s : PositionThirdOrderStep2) (l : Limits) (q : Quartic
 
   -- one that is made has the cause 13 exactly where it is marked
   pub marked_have_13 : (get_or (attempts_of shape s l q first second) i no_trial_of).made ≡ true
-      → eqb (cause_number_of (try_of l (get_or (attempts_of shape s l q first second) i no_trial_of) p).profile.cause) 13
+      → eqb
+      (cause_number_of (try_of l (get_or (attempts_of shape s l q first second) i no_trial_of) p).profile.cause) 13
       ≡ (get_or (attempts_of shape s l q first second) i no_trial_of).marked
   marked_have_13 = try_cause l attempt has_nan p

@@ -38,17 +38,17 @@ roots_fit answer f p = tried_fit (get_or p 0 nan) (get_or p 1 nan) (get_or p 2 n
 each_known : {m : Move} → MoveNumbers m → Each (Known m) Fits64 (solver_of m) (limits_of m)
 each_known n =
     record {
-      acc0_acc1_vel_uddu_lem = acc0_acc1_vel_uddu_known n;
-      acc0_acc1_vel_udud_lem = acc0_acc1_vel_udud_known n;
-      acc1_vel_uddu_lem = acc1_vel_uddu_known n _;
-      acc1_vel_udud_lem = acc1_vel_udud_known n _;
-      acc0_vel_uddu_lem = acc0_vel_uddu_known n _;
-      acc0_vel_udud_lem = acc0_vel_udud_known n _;
-      acc0_acc1_lem = acc0_acc1_known n;
-      acc0_first_lem = acc0_first_known n;
-      acc0_second_lem = acc0_second_known n;
-      acc0_third_lem = acc0_third_known n;
-      rest_to_rest_lem = rest_to_rest_known n;
+      of_acc0_acc1_vel_uddu = acc0_acc1_vel_uddu_known n;
+      of_acc0_acc1_vel_udud = acc0_acc1_vel_udud_known n;
+      of_acc1_vel_uddu = acc1_vel_uddu_known n _;
+      of_acc1_vel_udud = acc1_vel_udud_known n _;
+      of_acc0_vel_uddu = acc0_vel_uddu_known n _;
+      of_acc0_vel_udud = acc0_vel_udud_known n _;
+      of_acc0_acc1 = acc0_acc1_known n;
+      of_acc0_first = acc0_first_known n;
+      of_acc0_second = acc0_second_known n;
+      of_acc0_third = acc0_third_known n;
+      of_rest_to_rest = rest_to_rest_known n;
     }
 
 -- ---- every shape, with quartics of any coefficients

@@ -7,7 +7,6 @@ use mathlib.Core.Logic.{inl, inr}
 use mathlib.Core.List.{List}
 use Prim.Native.Nat.{ℕ, zero, suc, ◌+◌, ◌≤◌, ◌<◌, zero-le}
 use native.Mathlib.Nat.{le_refl, eq-or-lt_of_le}
-use native.Mathlib.Omega.{arith}
 use lib.ListN.{get_or}
 use lib.Ieee.{Float, nan}
 use Rattle.labels.specs.declared.ReachedLimits.{ReachedLimits}
@@ -51,43 +50,43 @@ module _ (f : ℕ → Nodes → Step Nodes) (g : ℕ → Node → Node) (test : 
       ]
 
 -- ---- the phases of `check`
-module _ (m : Tests) (a_max_lem a_min_lem : Float) (b : Band) (t j : List Float) where
+module _ (m : Tests) (a_max a_min : Float) (b : Band) (t j : List Float) where
   abbrev next : ℕ → Node → Node
   next i s =
       let w = step_of (get_or t i nan) (get_or j i nan) s in
-      record { a = replaced_of m false a_max_lem a_min_lem i w.a; v = w.v; p = w.p }
+      record { a = replaced_of m false a_max a_min i w.a; v = w.v; p = w.p }
 
   abbrev inside : ℕ → Node → Bool
   inside i s = zero_inside_of i s.v s.a (next i s).a (get_or j i nan) b
 
-  phases_tested : (n : Nodes) → (run (phase_of m false a_max_lem a_min_lem b t j) 7 0 n).ok ≡ true → (i : ℕ) → i < 7
-      → inside i (at (run (phase_of m false a_max_lem a_min_lem b t j) 7 0 n).left i) ≡ true
+  phases_tested : (n : Nodes) → (run (phase_of m false a_max a_min b t j) 7 0 n).ok ≡ true → (i : ℕ) → i < 7
+      → inside i (at (run (phase_of m false a_max a_min b t j) 7 0 n).left i) ≡ true
   unfolding phase_of node_of
   phases_tested n h i l =
-      tested (phase_of m false a_max_lem a_min_lem b t j) next inside (λ i n. refl) (λ i n. refl) 7 0 n h i zero-le l
+      tested (phase_of m false a_max a_min b t j) next inside (λ i n. refl) (λ i n. refl) 7 0 n h i zero-le l
 
 -- ---- a yes of `check`
 -- phase i of the profile q passed the test, or was not put to it
 abbrev pub ZeroInside : Float → Float → Profile → ℕ → Type 0
-ZeroInside v-max v-min q i =
-    zero_inside_of i (node q i).v (node q i).a (node q (suc i)).a (jerk q i) (band_of v-max v-max v-min) ≡ true
+ZeroInside v_max v_min q i =
+    zero_inside_of i (node q i).v (node q i).a (node q (suc i)).a (jerk q i) (band_of v_max v_max v_min) ≡ true
 
-module _ (signs : ControlSigns) (limits : ReachedLimits) (jf v-max v-min a_max_lem a_min_lem : Float) (q : Profile)
+module _ (signs : ControlSigns) (limits : ReachedLimits) (jf v_max v_min a_max a_min : Float) (q : Profile)
     (h : Held q) where
-  pub check_zero_inside : (check_of signs limits false jf v-max v-min a_max_lem a_min_lem q).ok ≡ true → (i : ℕ) → i < 7
-      → ZeroInside v-max v-min (check_of signs limits false jf v-max v-min a_max_lem a_min_lem q).profile i
+  pub check_zero_inside : (check_of signs limits false jf v_max v_min a_max a_min q).ok ≡ true → (i : ℕ) → i < 7
+      → ZeroInside v_max v_min (check_of signs limits false jf v_max v_min a_max a_min q).profile i
   unfolding replaced_of
   check_zero_inside said i l =
-      let b = band_of v-max v-max v-min in
-      let y = ended signs limits false jf v-max v-min a_max_lem a_min_lem q in
-      let is = yes_leaves signs limits false jf v-max v-min a_max_lem a_min_lem q said in
-      let made = subst (λ (z : Profile). Yes signs limits jf v-max v-min a_max_lem a_min_lem q z) is
-      (check_yes signs limits jf v-max v-min a_max_lem a_min_lem q h said) in
-      subst (λ (z : Profile). ZeroInside v-max v-min z i) (sym is)
+      let b = band_of v_max v_max v_min in
+      let y = ended signs limits false jf v_max v_min a_max a_min q in
+      let is = yes_leaves signs limits false jf v_max v_min a_max a_min q said in
+      let made = subst (λ (z : Profile). Yes signs limits jf v_max v_min a_max a_min q z) is
+      (check_yes signs limits jf v_max v_min a_max a_min q h said) in
+      subst (λ (z : Profile). ZeroInside v_max v_min z i) (sym is)
       (ap (λ (x : Float). zero_inside_of i (node y i).v (node y i).a x (jerk y i) b)
       (ap (λ (n : Node). n.a) (made.step i l))
-      ∙ phases_tested (tests_of limits) a_max_lem a_min_lem b q.t (jerks_of signs q.t jf) (nodes_of q)
-      (others_pass signs limits false jf v-max v-min a_max_lem a_min_lem q said).0 i l)
+      ∙ phases_tested (tests_of limits) a_max a_min b q.t (jerks_of signs q.t jf) (nodes_of q)
+      (others_pass signs limits false jf v_max v_min a_max a_min q said).0 i l)
 
 -- and so of every attempt that says yes
 pub made_zero_inside : {m : Move} {q : Profile} → Made m q → (i : ℕ) → i < 7

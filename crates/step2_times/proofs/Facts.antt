@@ -25,10 +25,10 @@ use Rattle.time_acc1_vel.specs.TimeAcc1Vel.{acc1_vel_uddu_times, acc1_vel_udud_t
 use Rattle.time_acc0_vel.specs.TimeAcc0Vel.{acc0_vel_uddu_times, acc0_vel_udud_times}
 use Rattle.step2_times.specs.Facts.{FormulaNumbers, Accepted, Lasts, Replaces}
 use Rattle.step2_times.proofs.Within.{within, more, more'}
-use Rattle.step2_times.proofs.Less.{acc0_acc1_vel_uddu_lasts, acc0_acc1_vel_udud_lasts, acc0_acc1_rest-lasts}
-use Rattle.step2_times.proofs.Less.{acc0_acc1_uddu_lasts, acc0_second_lasts, acc0_third-lasts}
+use Rattle.step2_times.proofs.Less.{acc0_acc1_vel_uddu_lasts, acc0_acc1_vel_udud_lasts, acc0_acc1_rest_lasts}
+use Rattle.step2_times.proofs.Less.{acc0_acc1_uddu_lasts, acc0_second_lasts, acc0_third_lasts}
 use Rattle.step2_times.proofs.Quotients.{acc1_vel_uddu_lasts, acc1_vel_udud_lasts, acc0_vel_uddu_lasts}
-use Rattle.step2_times.proofs.Quotients.{acc0_vel_udud_lasts, acc0_first-lasts}
+use Rattle.step2_times.proofs.Quotients.{acc0_vel_udud_lasts, acc0_first_lasts}
 use Rattle.step2_times.proofs.Ramps.{ramps, coasts, rests}
 
 swapped : (a b : D) → Same (a ⊞ b) (b ⊞ a)
@@ -124,7 +124,7 @@ module _ (tf p0 v0 a0 pf vf af a_max a_min j_max : Float) (n : FormulaNumbers tf
   unfolding acc0_acc1_rest_applies new_of acc0_acc1_rest_times
   acc0_acc1_rest_lem jf t1 l a =
       record {
-        lasts = acc0_acc1_rest-lasts tf p0 v0 a0 pf vf af a_max a_min j_max n.of_tf.held jf t1 a;
+        lasts = acc0_acc1_rest_lasts tf p0 v0 a0 pf vf af a_max a_min j_max n.of_tf.held jf t1 a;
         replaced =
             λ j p v h. rests a h p v a0 n.of_a0 (and_l (lt (abs_of a0) #ε) (lt (abs_of af) #ε) l)
             (a.is0 ∙ sym a.is2);
@@ -151,7 +151,7 @@ module _ (tf p0 v0 a0 pf vf af a_max a_min j_max : Float) (n : FormulaNumbers tf
   -- ---- `time_acc0`: labels None, None and Acc0 replace nothing
   pub acc0_first_lem : (h1 : Float) → Accepted t (acc0_first_times (new_of tf p0 v0 a0 pf vf af j_max) a_max j_max h1)
       → Lasts t tf
-  acc0_first_lem h1 a = acc0_first-lasts tf p0 v0 a0 pf vf af a_max a_min j_max n h1 a
+  acc0_first_lem h1 a = acc0_first_lasts tf p0 v0 a0 pf vf af a_max a_min j_max n h1 a
 
   pub acc0_second_lem : (h0 h1 t1 : Float)
       → Accepted t (acc0_second_times (new_of tf p0 v0 a0 pf vf af j_max) a_max j_max h0 h1 t1) → Lasts t tf
@@ -159,4 +159,4 @@ module _ (tf p0 v0 a0 pf vf af a_max a_min j_max : Float) (n : FormulaNumbers tf
 
   pub acc0_third_lem : (h0a h1 h2 : Float)
       → Accepted t (acc0_third_times (new_of tf p0 v0 a0 pf vf af j_max) a_max j_max h0a h1 h2) → Lasts t tf
-  acc0_third_lem h0a h1 h2 a = acc0_third-lasts tf p0 v0 a0 pf vf af a_max a_min j_max n.of_tf.held h0a h1 h2 a
+  acc0_third_lem h0a h1 h2 a = acc0_third_lasts tf p0 v0 a0 pf vf af a_max a_min j_max n.of_tf.held h0a h1 h2 a

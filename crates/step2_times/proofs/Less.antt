@@ -66,10 +66,10 @@ module _ {t : ℕ → Float} (tf : Float) (f : T (fits binary64 tf)) where
           → Same (t5 ⊞ t6 ⊟ (f ⊟ (t0 ⊞ t1 ⊞ t2 ⊞ 2 ⊙ t4 ⊞ q) ⊞ (t4 ⊞ q))) (sum t0 t1 t2 t3 t4 t5 t6 ⊟ f)
       identity t0 t1 t2 t3 t4 t5 t6 q f z = omega arith
 
-  rest-lasts : (t0 t1 t4 : Float)
+  rest_lasts : (t0 t1 t4 : Float)
       → Accepted t (record { t0 = t0; t1 = t1; t2 = t0; t3 = #0; t4 = t4; t5 = tf ⊖ (#2 ⊗ t0 ⊕ t1 ⊕ #2 ⊗ t4); t6 = t4 })
       → Lasts t tf
-  rest-lasts t0 t1 t4 a =
+  rest_lasts t0 t1 t4 a =
       let w = within a in
       lasts_of a (less tf f (on_add (on_add (on_twice w.t0 tt) (on w.t1) tt) (on_twice w.t4 tt) tt) w.t5)
       (identity (val t0) (val t1) (val #0) (val t4) (val (tf ⊖ (#2 ⊗ t0 ⊕ t1 ⊕ #2 ⊗ t4))) (val tf) zero-none) tt
@@ -91,10 +91,10 @@ module _ {t : ℕ → Float} (tf : Float) (f : T (fits binary64 tf)) where
           → Same (y ⊟ (f ⊟ (t0 ⊞ t1 ⊞ t2 ⊞ t3))) (sum t0 t1 t2 t3 z z y ⊟ f)
       late t0 t1 t2 t3 z y f e = omega arith
 
-  third-lasts : (t0 t1 t2 t3 : Float)
+  third_lasts : (t0 t1 t2 t3 : Float)
       → Accepted t (record { t0 = t0; t1 = t1; t2 = t2; t3 = t3; t4 = tf ⊖ (t0 ⊕ t1 ⊕ t2 ⊕ t3); t5 = #0; t6 = #0 })
       → Lasts t tf
-  third-lasts t0 t1 t2 t3 a =
+  third_lasts t0 t1 t2 t3 a =
       lasts_of a (four_less tf f (within a).t0 (within a).t1 (within a).t2 (within a).t3 (within a).t4)
       (early (val t0) (val t1) (val t2) (val t3) (val #0) (val (tf ⊖ (t0 ⊕ t1 ⊕ t2 ⊕ t3))) (val tf) zero-none) tt
     where
@@ -118,10 +118,10 @@ module _ (tf p0 v0 a0 pf vf af a_max a_min j : Float) (f : T (fits binary64 tf))
       vel_lasts tf f ((neg a0 ⊕ a_max) ⊘ j) t1 (a_max ⊘ j) t3 (a_max ⊘ j) (neg (af ⊘ j))
       (neg-fits binary64 (af ⊘ j) (div-fits binary64 af j)) a
 
-  pub acc0_acc1_rest-lasts : (jf t1 : Float)
+  pub acc0_acc1_rest_lasts : (jf t1 : Float)
       → Accepted t (acc0_acc1_rest_times (new_of tf p0 v0 a0 pf vf af j) a_max a_min jf t1) → Lasts t tf
   unfolding acc0_acc1_rest_times new_of
-  acc0_acc1_rest-lasts jf t1 a = rest-lasts tf f (a_max ⊘ jf) t1 (neg a_min ⊘ jf) a
+  acc0_acc1_rest_lasts jf t1 a = rest_lasts tf f (a_max ⊘ jf) t1 (neg a_min ⊘ jf) a
 
   pub acc0_acc1_uddu_lasts : (jf t1 : Float)
       → Accepted t (acc0_acc1_uddu_times (new_of tf p0 v0 a0 pf vf af j) a_max a_min jf t1) → Lasts t tf
@@ -136,10 +136,10 @@ module _ (tf p0 v0 a0 pf vf af a_max a_min j : Float) (f : T (fits binary64 tf))
       second_lasts tf f ((neg a0 ⊕ a_max) ⊘ j) t1 (neg (af ⊖ a0 ⊕ h0 ⊘ h1) ⊘ (#2 ⊗ j) ⊕ tf ⊘ #2 ⊖ t1 ⊘ #2)
       (h0 ⊘ (j ⊗ h1)) a
 
-  pub acc0_third-lasts : (h0a h1 h2 : Float)
+  pub acc0_third_lasts : (h0a h1 h2 : Float)
       → Accepted t (acc0_third_times (new_of tf p0 v0 a0 pf vf af j) a_max j h0a h1 h2) → Lasts t tf
   unfolding acc0_third_times new_of
-  acc0_third-lasts h0a h1 h2 a =
+  acc0_third_lasts h0a h1 h2 a =
       let t0 = (neg a0 ⊕ a_max) ⊘ j in
       let t3 = (#2 ⊗ h0a ⊖ h1) ⊘ h2 in
-      third-lasts tf f t0 ((af ⊖ a0) ⊘ j ⊖ #2 ⊗ t0 ⊖ t3 ⊕ tf) (neg (#2 ⊗ h0a ⊕ h1) ⊘ h2) t3 a
+      third_lasts tf f t0 ((af ⊖ a0) ⊘ j ⊖ #2 ⊗ t0 ⊖ t3 ⊕ tf) (neg (#2 ⊗ h0a ⊕ h1) ⊘ h2) t3 a

@@ -186,10 +186,10 @@ module _ (tf p0 v0 a0 pf vf af a_max a_min j : Float) (n : FormulaNumbers tf a0 
       cancels a0 af m h = omega arith
 
   -- ---- `time_acc0`, first attempt. What is divided is small on the jerk's scale, but a0, a_max and af need not be
-  pub acc0_first-lasts : (h1 : Float) → Accepted t (acc0_first_times (new_of tf p0 v0 a0 pf vf af j) a_max j h1)
+  pub acc0_first_lasts : (h1 : Float) → Accepted t (acc0_first_times (new_of tf p0 v0 a0 pf vf af j) a_max j h1)
       → Lasts t tf
   unfolding acc0_first_times new_of sub
-  acc0_first-lasts h1 a =
+  acc0_first_lasts h1 a =
       let w = within a in
       let g = n.of_j_max in
       let ad = af ⊖ a0 in

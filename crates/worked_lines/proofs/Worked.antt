@@ -63,7 +63,7 @@ use Rattle.line_arrives.specs.LineArrives.{byte_in, AsksShape}
 use Rattle.line_arrives.proofs.Theorem.{yes_arrives}
 use Rattle.worked_lines.specs.Attempts.{Attempt, Acc0Acc1Vel-UDDU, Acc0Acc1Vel-UDUD, Acc1Vel-UDDU, Acc1Vel-UDUD}
 use Rattle.worked_lines.specs.Attempts.{Acc0Vel-UDDU, Acc0Vel-UDUD, Acc0Acc1-rest, Acc0Acc1-UDDU}
-use Rattle.worked_lines.specs.Attempts.{Acc0-first, Acc0_second, Acc0-third, RestToRest-rest, RestToRest-UDDU}
+use Rattle.worked_lines.specs.Attempts.{Acc0-first, Acc0-second, Acc0-third, RestToRest-rest, RestToRest-UDDU}
 use Rattle.worked_lines.specs.Attempts.{shape_by, trial_in}
 use Rattle.worked_lines.specs.Lines.{line_for}
 use Rattle.worked_lines.specs.Worked.{answer_for, Worked}
@@ -115,7 +115,7 @@ owns =
     ∷ own Acc0Acc1-rest
     ∷ own Acc0Acc1-UDDU
     ∷ own Acc0-first
-    ∷ own Acc0_second
+    ∷ own Acc0-second
     ∷ own Acc0-third
     ∷ own RestToRest-rest
     ∷ own RestToRest-UDDU
@@ -155,7 +155,7 @@ met Acc0Vel-UDUD = (refl, each owns all_own 5)
 met Acc0Acc1-rest = (refl, each owns all_own 6)
 met Acc0Acc1-UDDU = (refl, each owns all_own 7)
 met Acc0-first = (refl, each owns all_own 8)
-met Acc0_second = (refl, each owns all_own 9)
+met Acc0-second = (refl, each owns all_own 9)
 met Acc0-third = (refl, each owns all_own 10)
 met RestToRest-rest = (refl, each owns all_own 11)
 met RestToRest-UDDU = (refl, each owns all_own 12)

@@ -34,7 +34,7 @@ pub data Attempt : Type 0 where
   Acc1Vel-UDDU Acc1Vel-UDUD : Attempt
   Acc0Vel-UDDU Acc0Vel-UDUD : Attempt
   Acc0Acc1-rest Acc0Acc1-UDDU : Attempt
-  Acc0-first Acc0_second Acc0-third : Attempt
+  Acc0-first Acc0-second Acc0-third : Attempt
   RestToRest-rest RestToRest-UDDU : Attempt
 
 -- the shape that makes it
@@ -48,7 +48,7 @@ shape_by Acc0Vel-UDUD = Acc0Vel
 shape_by Acc0Acc1-rest = Acc0Acc1
 shape_by Acc0Acc1-UDDU = Acc0Acc1
 shape_by Acc0-first = Acc0
-shape_by Acc0_second = Acc0
+shape_by Acc0-second = Acc0
 shape_by Acc0-third = Acc0
 shape_by RestToRest-rest = RestToRest
 shape_by RestToRest-UDDU = RestToRest
@@ -69,7 +69,7 @@ trials_by Acc0Vel-UDUD s l q first second =
 trials_by Acc0Acc1-rest s l q first second = cond (acc0_acc1_rest_applies s) (acc0_acc1_rest s l ∷ []) []
 trials_by Acc0Acc1-UDDU s l q first second = cond (acc0_acc1_rest_applies s) [] (acc0_acc1_uddu s l ∷ [])
 trials_by Acc0-first s l q first second = acc0_first s l ∷ []
-trials_by Acc0_second s l q first second = acc0_second s l ∷ []
+trials_by Acc0-second s l q first second = acc0_second s l ∷ []
 trials_by Acc0-third s l q first second = acc0_third s l ∷ []
 trials_by RestToRest-rest s l q first second = cond (acc0_acc1_rest_applies s) (rest_to_rest_trial s l ∷ []) []
 trials_by RestToRest-UDDU s l q first second = cond (acc0_acc1_rest_applies s) [] (acc0_acc1_uddu s l ∷ [])
@@ -80,7 +80,7 @@ in_order_of f Acc0Acc1Vel = f Acc0Acc1Vel-UDDU ++ f Acc0Acc1Vel-UDUD
 in_order_of f Acc1Vel = f Acc1Vel-UDDU ++ f Acc1Vel-UDUD
 in_order_of f Acc0Vel = f Acc0Vel-UDDU ++ f Acc0Vel-UDUD
 in_order_of f Acc0Acc1 = f Acc0Acc1-rest ++ f Acc0Acc1-UDDU
-in_order_of f Acc0 = f Acc0-first ++ f Acc0_second ++ f Acc0-third
+in_order_of f Acc0 = f Acc0-first ++ f Acc0-second ++ f Acc0-third
 in_order_of f RestToRest = f RestToRest-rest ++ f RestToRest-UDDU
 
 -- trial i of an attempt for the numbers and the root answers of a line

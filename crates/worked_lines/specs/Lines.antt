@@ -7,7 +7,7 @@ use Rattle.hex_bytes.specs.Hex.{hex_of}
 use Rattle.line_reply.specs.Reply.{numbers_bytes}
 use Rattle.worked_lines.specs.Attempts.{Attempt, Acc0Acc1Vel-UDDU, Acc0Acc1Vel-UDUD, Acc1Vel-UDDU, Acc1Vel-UDUD}
 use Rattle.worked_lines.specs.Attempts.{Acc0Vel-UDDU, Acc0Vel-UDUD, Acc0Acc1-rest, Acc0Acc1-UDDU}
-use Rattle.worked_lines.specs.Attempts.{Acc0-first, Acc0_second, Acc0-third, RestToRest-rest, RestToRest-UDDU}
+use Rattle.worked_lines.specs.Attempts.{Acc0-first, Acc0-second, Acc0-third, RestToRest-rest, RestToRest-UDDU}
 
 -- whole numbers that the Rust's formulas do not name
 abbrev #7 : Float
@@ -32,11 +32,11 @@ abbrev #-4 : Float
 #-4 = neg #4
 
 -- the characters of a kind, the twelve numbers, and the bytes of the root answers where the kind has them
-abbrev line : (kind : ℕ) (tf p0 v0 a0 pf vf af v-max v-min a_max_lem a_min_lem j_max_lem : Float) (answers : List ℕ) → List ℕ
-line kind tf p0 v0 a0 pf vf af v-max v-min a_max_lem a_min_lem j_max_lem answers =
+abbrev line : (kind : ℕ) (tf p0 v0 a0 pf vf af v_max v_min a_max a_min j_max : Float) (answers : List ℕ) → List ℕ
+line kind tf p0 v0 a0 pf vf af v_max v_min a_max a_min j_max answers =
     hex_of
     (kind
-    ∷ numbers_bytes (tf ∷ p0 ∷ v0 ∷ a0 ∷ pf ∷ vf ∷ af ∷ v-max ∷ v-min ∷ a_max_lem ∷ a_min_lem ∷ j_max_lem ∷ [])
+    ∷ numbers_bytes (tf ∷ p0 ∷ v0 ∷ a0 ∷ pf ∷ vf ∷ af ∷ v_max ∷ v_min ∷ a_max ∷ a_min ∷ j_max ∷ [])
     ++ answers)
 
 -- a root answer: the count, and three numbers by their bits
@@ -75,7 +75,7 @@ line_for Acc0Acc1-UDDU = line 0x04 #6 #0 #0 #1 #3 #0 #1 #2 #-2 #1 #-1 #1 []
 -- from rest to the speed 1, over the acceleration -1: 1 1 2 0 1 0 0
 line_for Acc0-first = line 0x05 #5 #0 #0 #0 #6 #1 #0 #2 #-2 #1 #-1 #1 []
 -- from rest to rest, with the acceleration -1 held: 1 1 2 1 0 0 1
-line_for Acc0_second = line 0x05 #6 #0 #0 #0 #6 #0 #0 #2 #-2 #1 #-1 #1 []
+line_for Acc0-second = line 0x05 #6 #0 #0 #0 #6 #0 #0 #2 #-2 #1 #-1 #1 []
 -- from the acceleration -1 over 1 back to -1: 2 1 1 1 1 0 0
 line_for Acc0-third = line 0x05 #6 #0 #0 #-1 #4 #1 #-1 #2 #-2 #1 #-1 #1 []
 -- from rest to rest, by kind 08: 0.9 0.7 0.9 0 0.9 0.7 0.9 but for roundings. Kind 04 has t[1] = -1, and says no.
