@@ -1,14 +1,15 @@
 // The line program: each line of standard input gets its reply, or its refusal in two decimal digits, each ended by a
 // line feed.
 #![tactic(auto)]
+
 ghost use Rattle.std.specs.Prelude.{length, take};
-ghost use Rattle.io.specs.Counts.{clamp_len};
 ghost use Rattle.line_cut.specs.Stream.{Streams};
 ghost use Rattle.line_stream.specs.Output.{turn_of};
 
-use libc::{STDIN_FILENO, STDOUT_FILENO};
 use line_kinds::SPREAD;
 use line_stream::{KEPT, ROOM, Streamed};
+use std::io;
+use std::io::{Read, Write};
 
 // The characters that are read at once, and room for the answers to them, for the answer to a line that began earlier,
 // and for one more, without which `stream` stops.
@@ -16,9 +17,10 @@ const BLOCK: usize = 65536;
 
 const OUT: usize = SPREAD * BLOCK + 2 * ROOM;
 
-// Answers the lines that end in what a read gave: `got` is what it said, of the block that it was lent.
+// Answers the lines that end in what a read gave: the first n characters of the block that it was lent, or the whole
+// block where n is more than that.
 fn turn(
-    got: isize,
+    n: usize,
     block: &[u8; BLOCK],
     kept: &mut [u8; KEPT],
     count: usize,
@@ -26,38 +28,36 @@ fn turn(
 ) -> Streamed
     ensures { Streams
         (turn_of (take count kept.old)
-        (take (clamp_len got (length block.now)) block.now))
+        (take n block.now))
         result.used result.count result.filled kept.new out.old out.new }
 {
     // the first places are to be had of a slice, not of a lent array
     let block: &[u8] = block;
-    let n = io::count(got, block);
+    let n = n.min(block.len());
     line_stream::stream(&block[..n], kept, count, out)
 }
 
 // Reads to the end of the input, or to the first read or write that fails. A line that has begun is answered where the
 // input ends. After a read that failed it is not: more of it may stand in the input. A proved loop has to end, and
 // nothing says that the input does: so the turns are counted, up to a number that no run comes to.
-fn main() {
+fn main(rt: HostRuntime) -> io::Result<()> {
+    let mut input = rt.stdin();
+    let mut output = rt.stdout();
     let mut block = [0u8; BLOCK];
     let mut kept = [0u8; KEPT];
     let mut out = [0u8; OUT];
     let mut count = 0;
     for _ in 0..u64::MAX {
-        let got = libc::read(STDIN_FILENO, &mut block);
-        if got <= 0 {
-            if got == 0 {
-                let mut last = [0u8; ROOM];
-                let n = line_stream::finish(&kept, count, &mut last);
-                io::write_all(STDOUT_FILENO, &last[..n]);
-            }
-            return;
+        let got = input.read(&mut block)?;
+        if got == 0 {
+            let mut last = [0u8; ROOM];
+            let n = line_stream::finish(&kept, count, &mut last);
+            return output.write_all(&last[..n]);
         }
         let t = turn(got, &block, &mut kept, count, &mut out);
         let filled = t.filled;
-        if !io::write_all(STDOUT_FILENO, &out[..filled]) {
-            return;
-        }
+        output.write_all(&out[..filled])?;
         count = t.count;
     }
+    Ok(())
 }

@@ -2,6 +2,7 @@
 // and 08 and 11 to 15 of document 02: the reply of each. The list is made by oracle/lists.sh, seed 1: its lists kind00,
 // shapes, causes and rest, one after the other, with the oracle's replies.
 #![tactic(auto)]
+
 use hex_bytes::decode;
 use labels::{label, signs};
 use line_frame::{CheckNumbers, check_numbers, first_answer, move_numbers, second_answer};
@@ -12,6 +13,8 @@ use position_third_step2::{
 };
 use profile::in_place::Verdict;
 use profile::{Checked, Profile};
+use std::io;
+use std::io::{ErrorKind, Read, Write};
 use step2_quartics::quartics_of;
 use step2_solver::{Move, Shape};
 
@@ -23,27 +26,27 @@ fn verdict(c: Checked) -> Verdict {
     }
 }
 
-fn send_record(c: Checked) -> bool {
+fn send_record(output: &mut impl Write, c: Checked) -> io::Result<()> {
     let q = c.profile;
     let mut reply = [0u8; RECORD];
     write_record(&mut reply, verdict(c), &q.row());
-    io::write_all(1, &reply)
+    output.write_all(&reply)
 }
 
-fn send_causes(c: Checked) -> bool {
+fn send_causes(output: &mut impl Write, c: Checked) -> io::Result<()> {
     let q = c.profile;
     let mut reply = [0u8; CAUSES];
     write_causes(&mut reply, verdict(c), &q.row());
-    io::write_all(1, &reply)
+    output.write_all(&reply)
 }
 
-fn send_quartics(shape: Shape, x: Move) -> bool {
+fn send_quartics(output: &mut impl Write, shape: Shape, x: Move) -> io::Result<()> {
     let q = quartics_of(shape, x.solver(), x.limits());
     let uddu = q.uddu;
     let udud = q.udud;
     let mut reply = [0u8; QUARTICS];
     write_quartics(&mut reply, uddu, udud);
-    io::write_all(1, &reply)
+    output.write_all(&reply)
 }
 
 fn checked(frame: &[u8; FRAME], x: CheckNumbers) -> Checked {
@@ -82,64 +85,81 @@ fn tried(shape: Shape, frame: &[u8; FRAME]) -> Checked {
     }
 }
 
-fn send_reply(asks: Asks, frame: &[u8; FRAME]) -> bool {
+// Whether `asks` is of a kind.
+fn send_reply(output: &mut impl Write, asks: Asks, frame: &[u8; FRAME]) -> io::Result<bool> {
     match asks {
-        Asks::NoKind => false,
-        Asks::OfCheck => send_record(checked(frame, check_numbers(frame).x)),
-        Asks::OfShape(shape) => send_record(tried(shape, frame)),
-        Asks::OfQuartics(shape) => send_quartics(shape, move_numbers(frame).x),
-        Asks::OfCauses(shape) => send_causes(tried(shape, frame)),
+        Asks::NoKind => return Ok(false),
+        Asks::OfCheck => send_record(output, checked(frame, check_numbers(frame).x))?,
+        Asks::OfShape(shape) => send_record(output, tried(shape, frame))?,
+        Asks::OfQuartics(shape) => send_quartics(output, shape, move_numbers(frame).x)?,
+        Asks::OfCauses(shape) => send_causes(output, tried(shape, frame))?,
+    }
+    Ok(true)
+}
+
+// Fills `line`, or says that the input ended before.
+fn read_line(input: &mut impl Read, line: &mut [u8]) -> io::Result<bool> {
+    match input.read_exact(line) {
+        Ok(()) => Ok(true),
+        Err(e) if e.kind() == ErrorKind::UnexpectedEof => Ok(false),
+        Err(e) => Err(e),
     }
 }
 
 // Fills `line`, takes the line feed after it, and puts its bytes into `bytes`.
-fn read_digits(line: &mut [u8], bytes: &mut [u8]) -> bool {
+fn read_digits(input: &mut impl Read, line: &mut [u8], bytes: &mut [u8]) -> io::Result<bool> {
     let mut feed = [0u8; 1];
-    if io::read_full(0, line) < line.len() {
-        return false;
+    if !read_line(input, line)? {
+        return Ok(false);
     }
-    if io::read_full(0, &mut feed) < 1 {
-        return false;
+    if !read_line(input, &mut feed)? {
+        return Ok(false);
     }
-    decode(line, bytes)
+    Ok(decode(line, bytes))
 }
 
 // The rest of a line, of n digits.
-fn read_rest(n: usize, bytes: &mut [u8]) -> bool {
+fn read_rest(input: &mut impl Read, n: usize, bytes: &mut [u8]) -> io::Result<bool> {
     let mut line = [0u8; LINE];
     if LINE < n {
-        return false;
+        return Ok(false);
     }
-    read_digits(&mut line[..n], bytes)
+    read_digits(input, &mut line[..n], bytes)
 }
 
 // Answers one line, and whether there was one. The kind comes first and tells how many bytes follow.
-fn answer_line() -> bool {
+fn answer_line(input: &mut impl Read, output: &mut impl Write) -> io::Result<bool> {
     let mut kind = [0u8; 2];
-    if io::read_full(0, &mut kind) < 2 {
-        return false;
+    if !read_line(input, &mut kind)? {
+        return Ok(false);
     }
     let mut frame = [0u8; FRAME];
     decode(&kind, &mut frame);
     let row = row_of(frame[0]);
     let bytes = row.bytes;
     if bytes < 1 {
-        return false;
+        return Ok(false);
     }
     if FRAME < bytes {
-        return false;
+        return Ok(false);
     }
-    if !read_rest(2 * (bytes - 1), &mut frame[1..]) {
-        return false;
+    if !read_rest(input, 2 * (bytes - 1), &mut frame[1..])? {
+        return Ok(false);
     }
     let asks = row.asks;
-    send_reply(asks, &frame) & io::write_all(1, b"\n")
+    let answered = send_reply(output, asks, &frame)?;
+    output.write_all(b"\n")?;
+    Ok(answered)
 }
 
 // The list is shorter than the count of turns, which is there so that the loop is seen to end.
-fn main() {
-    let mut turns = u64::MAX;
-    while turns > 0 && answer_line() {
-        turns -= 1;
+fn main(rt: HostRuntime) -> io::Result<()> {
+    let mut input = rt.stdin();
+    let mut output = rt.stdout();
+    for _ in 0..u64::MAX {
+        if !answer_line(&mut input, &mut output)? {
+            break;
+        }
     }
+    Ok(())
 }

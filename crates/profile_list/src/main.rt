@@ -5,6 +5,7 @@
 // A record is answered with the count of its calls of `check` and the cause of the last one after it.
 // The list is made by oracle/lists.sh, seed 1, with what the Rust answers.
 #![tactic(auto)]
+
 use digits::{byte_to_digits, from_digits};
 use float::is_finite;
 use hex_bytes::decode;
@@ -14,6 +15,8 @@ use line_kinds::{CAUSES, FRAME};
 use line_reply::write_causes;
 use profile::in_place::Verdict;
 use profile::{Checked, Profile};
+use std::io;
+use std::io::{ErrorKind, Read, Write};
 
 // What `check` answers and leaves, and what `check_with_timing` then makes of the record that was left.
 #[derive(Clone, Copy)]
@@ -24,7 +27,7 @@ struct Twice {
     last: Profile,
 }
 
-fn send_record(c: Checked) -> bool {
+fn send_record(output: &mut impl Write, c: Checked) -> io::Result<()> {
     let q = c.profile;
     let answer = Verdict {
         ok: c.ok,
@@ -32,10 +35,10 @@ fn send_record(c: Checked) -> bool {
     };
     let mut reply = [0u8; CAUSES];
     write_causes(&mut reply, answer, &q.row());
-    io::write_all(1, &reply)
+    output.write_all(&reply)
 }
 
-// The one function that makes a reference to a record: its proof is by hand.
+// The one function that makes a reference to a record.
 fn lent(
     mut p: Profile,
     p0: f64,
@@ -94,7 +97,12 @@ fn timed(x: CheckNumbers) -> Profile {
     q
 }
 
-fn send_lent(frame: &[u8; FRAME], x: CheckNumbers, marked: bool) -> bool {
+fn send_lent(
+    output: &mut impl Write,
+    frame: &[u8; FRAME],
+    x: CheckNumbers,
+    marked: bool,
+) -> io::Result<()> {
     let r = lent(
         timed(x),
         x.p0,
@@ -123,7 +131,8 @@ fn send_lent(frame: &[u8; FRAME], x: CheckNumbers, marked: bool) -> bool {
         ok: r.again,
         profile: last,
     };
-    send_record(first) & send_record(second)
+    send_record(output, first)?;
+    send_record(output, second)
 }
 
 fn bounded(x: CheckNumbers) -> Profile {
@@ -164,72 +173,97 @@ fn with_timing_full(
     )
 }
 
-fn send_reply(what: u8, frame: &[u8; FRAME], j_max: f64, tf: f64) -> bool {
+// Whether `what` says what is called.
+fn send_reply(
+    output: &mut impl Write,
+    what: u8,
+    frame: &[u8; FRAME],
+    j_max: f64,
+    tf: f64,
+) -> io::Result<bool> {
     let x = check_numbers(frame).x;
     let marked = what >= 4;
     match what {
-        0 | 4 => send_lent(frame, x, marked),
-        1 | 5 => send_record(with_timing(frame, x, marked)),
-        2 | 6 => send_record(with_timing_full(frame, x, tf, j_max, marked)),
-        _ => false,
+        0 | 4 => send_lent(output, frame, x, marked)?,
+        1 | 5 => send_record(output, with_timing(frame, x, marked))?,
+        2 | 6 => send_record(output, with_timing_full(frame, x, tf, j_max, marked))?,
+        _ => return Ok(false),
+    }
+    Ok(true)
+}
+
+// Fills `line`, or says that the input ended before.
+fn read_line(input: &mut impl Read, line: &mut [u8]) -> io::Result<bool> {
+    match input.read_exact(line) {
+        Ok(()) => Ok(true),
+        Err(e) if e.kind() == ErrorKind::UnexpectedEof => Ok(false),
+        Err(e) => Err(e),
     }
 }
 
 // The rest of a line after its first byte: the other bytes of the frame; j_max, tf and a line feed.
-fn answer_check(what: u8) -> bool {
+fn answer_check(input: &mut impl Read, output: &mut impl Write, what: u8) -> io::Result<bool> {
     let mut line = [0u8; 294];
-    if io::read_full(0, &mut line) < 294 {
-        return false;
+    if !read_line(input, &mut line)? {
+        return Ok(false);
     }
     let mut after = [0u8; 33];
-    if io::read_full(0, &mut after) < 33 {
-        return false;
+    if !read_line(input, &mut after)? {
+        return Ok(false);
     }
     let mut frame = [0u8; FRAME];
     let j_max = from_digits(&after, 0);
     let tf = from_digits(&after, 16);
     if !(decode(&line, &mut frame[1..]) & j_max.ok & tf.ok) {
-        return false;
+        return Ok(false);
     }
-    send_reply(what, &frame, j_max.x, tf.x)
+    send_reply(output, what, &frame, j_max.x, tf.x)
 }
 
-fn answer_finite() -> bool {
+fn answer_finite(input: &mut impl Read, output: &mut impl Write) -> io::Result<bool> {
     let mut line = [0u8; 17];
-    if io::read_full(0, &mut line) < 17 {
-        return false;
+    if !read_line(input, &mut line)? {
+        return Ok(false);
     }
     let x = from_digits(&line, 0);
     if !x.ok {
-        return false;
+        return Ok(false);
     }
     let mut answer = 0u8;
     if is_finite(x.x) {
         answer = 1;
     }
-    io::write_all(1, &byte_to_digits(answer))
+    output.write_all(&byte_to_digits(answer))?;
+    Ok(true)
 }
 
 // Answers one line, and whether there was one.
-fn answer_line() -> bool {
+fn answer_line(input: &mut impl Read, output: &mut impl Write) -> io::Result<bool> {
     let mut first = [0u8; 2];
-    if io::read_full(0, &mut first) < 2 {
-        return false;
+    if !read_line(input, &mut first)? {
+        return Ok(false);
     }
     let mut what = [0u8; 1];
     if !decode(&first, &mut what) {
-        return false;
+        return Ok(false);
     }
-    if what[0] == 3 {
-        return answer_finite() & io::write_all(1, b"\n");
-    }
-    answer_check(what[0]) & io::write_all(1, b"\n")
+    let answered = if what[0] == 3 {
+        answer_finite(input, output)?
+    } else {
+        answer_check(input, output, what[0])?
+    };
+    output.write_all(b"\n")?;
+    Ok(answered)
 }
 
 // The list is shorter than the count of turns, which is there so that the loop is seen to end.
-fn main() {
-    let mut turns = u64::MAX;
-    while turns > 0 && answer_line() {
-        turns -= 1;
+fn main(rt: HostRuntime) -> io::Result<()> {
+    let mut input = rt.stdin();
+    let mut output = rt.stdout();
+    for _ in 0..u64::MAX {
+        if !answer_line(&mut input, &mut output)? {
+            break;
+        }
     }
+    Ok(())
 }

@@ -3,9 +3,12 @@
 // with the roots in order of trial.
 // The list is made by oracle/lists.sh, seed 1, with what the Rust's `solve_quart_monic_arr` answers.
 #![tactic(auto)]
+
 use digits::{byte_to_digits, from_digits, to_digits};
 use positive_set::PositiveSet;
 use roots::{RootAnswer, Three, need_number, quartic_need, resolvent_arguments, sorted_roots};
+use std::io;
+use std::io::{ErrorKind, Read, Write};
 
 // What a line asks, and whether it is a line of the list.
 #[derive(Clone, Copy)]
@@ -59,49 +62,71 @@ fn question(line: &[u8; 115]) -> Asked {
     }
 }
 
-fn write_number(x: f64) {
-    io::write_all(1, &to_digits(x));
+fn write_number(output: &mut impl Write, x: f64) -> io::Result<()> {
+    output.write_all(&to_digits(x))
 }
 
-fn write_root(roots: PositiveSet, i: usize) {
+fn write_root(output: &mut impl Write, roots: PositiveSet, i: usize) -> io::Result<()> {
     if (i < 4) & (i < roots.len) {
-        write_number(roots.data[i % 4]);
+        write_number(output, roots.data[i % 4])?;
     }
+    Ok(())
 }
 
-fn write_reply(a: f64, b: f64, c: f64, d: f64, answer: RootAnswer) -> bool {
+fn write_reply(
+    output: &mut impl Write,
+    a: f64,
+    b: f64,
+    c: f64,
+    d: f64,
+    answer: RootAnswer,
+) -> io::Result<()> {
     let arguments = resolvent_arguments(a, b, c, d);
-    io::write_all(1, &byte_to_digits(need_number(quartic_need(a, b, c, d))));
-    write_number(arguments.x0);
-    write_number(arguments.x1);
-    write_number(arguments.x2);
+    output.write_all(&byte_to_digits(need_number(quartic_need(a, b, c, d))))?;
+    write_number(output, arguments.x0)?;
+    write_number(output, arguments.x1)?;
+    write_number(output, arguments.x2)?;
     let roots = sorted_roots([a, b, c, d], answer);
-    io::write_all(1, &byte_to_digits((roots.len % 256) as u8));
-    write_root(roots, 0);
-    write_root(roots, 1);
-    write_root(roots, 2);
-    write_root(roots, 3);
-    io::write_all(1, b"\n")
+    output.write_all(&byte_to_digits((roots.len % 256) as u8))?;
+    write_root(output, roots, 0)?;
+    write_root(output, roots, 1)?;
+    write_root(output, roots, 2)?;
+    write_root(output, roots, 3)?;
+    output.write_all(b"\n")
+}
+
+// Fills `line`, or says that the input ended before.
+fn read_line(input: &mut impl Read, line: &mut [u8]) -> io::Result<bool> {
+    match input.read_exact(line) {
+        Ok(()) => Ok(true),
+        Err(e) if e.kind() == ErrorKind::UnexpectedEof => Ok(false),
+        Err(e) => Err(e),
+    }
 }
 
 // Answers one line, and whether there was one.
-fn answer_line() -> bool {
+fn answer_line(input: &mut impl Read, output: &mut impl Write) -> io::Result<bool> {
     let mut line = [0u8; 115];
-    if io::read_full(0, &mut line) < 115 {
-        return false;
+    if !read_line(input, &mut line)? {
+        return Ok(false);
     }
     let q = question(&line);
     if !q.ok {
-        return false;
+        return Ok(false);
     }
     let answer = q.answer;
-    write_reply(q.a, q.b, q.c, q.d, answer)
+    write_reply(output, q.a, q.b, q.c, q.d, answer)?;
+    Ok(true)
 }
 
 // The list is shorter than the count of turns, which is there so that the loop is seen to end.
-fn main() {
-    let mut turns = u64::MAX;
-    while turns > 0 && answer_line() {
-        turns -= 1;
+fn main(rt: HostRuntime) -> io::Result<()> {
+    let mut input = rt.stdin();
+    let mut output = rt.stdout();
+    for _ in 0..u64::MAX {
+        if !answer_line(&mut input, &mut output)? {
+            break;
+        }
     }
+    Ok(())
 }

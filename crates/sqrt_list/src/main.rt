@@ -3,38 +3,57 @@
 // square roots of real arguments not below zero in CPython's Lib/test/cmath_testcases.txt, with the roots
 // published there (Debian libpython3.11-testsuite 3.11.2-6+deb12u9).
 #![tactic(auto)]
-use digits::{Read, byte_to_digits, from_digits, to_digits};
-use sqrt::{SquareRoot, is_mark, sqrt, to_f64};
 
-fn number(line: &[u8; 17]) -> Read {
+use digits::{byte_to_digits, from_digits, to_digits};
+use sqrt::{SquareRoot, is_mark, sqrt, to_f64};
+use std::io;
+use std::io::{ErrorKind, Read, Write};
+
+fn number(line: &[u8; 17]) -> digits::Read {
     from_digits(line, 0)
 }
 
-fn send_root(root: SquareRoot) -> bool {
+fn send_root(output: &mut impl Write, root: SquareRoot) -> io::Result<()> {
     let mut mark = 0u8;
     if is_mark(root) {
         mark = 1;
     }
-    io::write_all(1, &to_digits(to_f64(root))) && io::write_all(1, &byte_to_digits(mark))
+    output.write_all(&to_digits(to_f64(root)))?;
+    output.write_all(&byte_to_digits(mark))
+}
+
+// Fills `line`, or says that the input ended before.
+fn read_line(input: &mut impl Read, line: &mut [u8]) -> io::Result<bool> {
+    match input.read_exact(line) {
+        Ok(()) => Ok(true),
+        Err(e) if e.kind() == ErrorKind::UnexpectedEof => Ok(false),
+        Err(e) => Err(e),
+    }
 }
 
 // Answers one line, and whether there was one.
-fn answer_line() -> bool {
+fn answer_line(input: &mut impl Read, output: &mut impl Write) -> io::Result<bool> {
     let mut line = [0u8; 17];
-    if io::read_full(0, &mut line) < 17 {
-        return false;
+    if !read_line(input, &mut line)? {
+        return Ok(false);
     }
     let read = number(&line);
     if !read.ok {
-        return false;
+        return Ok(false);
     }
-    send_root(sqrt(read.x)) && io::write_all(1, b"\n")
+    send_root(output, sqrt(read.x))?;
+    output.write_all(b"\n")?;
+    Ok(true)
 }
 
 // The list is shorter than the count of turns, which is there so that the loop is seen to end.
-fn main() {
-    let mut turns = u64::MAX;
-    while turns > 0 && answer_line() {
-        turns -= 1;
+fn main(rt: HostRuntime) -> io::Result<()> {
+    let mut input = rt.stdin();
+    let mut output = rt.stdout();
+    for _ in 0..u64::MAX {
+        if !answer_line(&mut input, &mut output)? {
+            break;
+        }
     }
+    Ok(())
 }

@@ -1,2 +1,0 @@
--- What lends a record that is a local.
-pub mod Lending

@@ -1,8 +1,0 @@
--- `sqrt_list::main` is safe and ends: the turns that are left grow fewer. Assumes nothing.
-use native.Mathlib.Omega.{arith}
-use Rattle.sqrt_list.proofs.main.Statement.{statement}
-use Rattle.sqrt_list.proofs.main.Tie as tie
-
-pub main_spec : {M : Type 1} → statement M
-main_spec = tie.close (tie.spec (λ turns₀ turns. Unit {0}) (λ turns₀ turns. turns) (λ c. tt) (λ c κs. tt)
-    (λ c. omega arith) (λ c. omega arith) (λ c. tt) (λ c. tt) (λ c. tt))
