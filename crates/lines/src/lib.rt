@@ -58,8 +58,7 @@ pub fn answered(request: &[u8], reply: &mut [u8]) -> Numbered
     }
 }
 
-#[unsafe(no_mangle)]
-pub extern "C" fn answer_line(request: &[u8], reply: &mut [u8]) -> u32
+pub fn answer_line(request: &[u8], reply: &mut [u8]) -> u32
     ensures { record { number = result; places = reply.new }
         ≡ answer_of request.now reply.old }
 {
@@ -68,8 +67,7 @@ pub extern "C" fn answer_line(request: &[u8], reply: &mut [u8]) -> u32
 }
 
 // The same with the count, for a host that does not know the kinds.
-#[unsafe(no_mangle)]
-pub extern "C" fn answer_counted(request: &[u8], reply: &mut [u8], filled: &mut usize) -> u32
+pub fn answer_counted(request: &[u8], reply: &mut [u8], filled: &mut usize) -> u32
     ensures { record { number = result; filled = filled.new; places = reply.new }
         ≡ outcome_of request.now reply.old }
 {
