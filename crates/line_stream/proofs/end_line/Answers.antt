@@ -1,0 +1,26 @@
+-- `end_line` stores the output of the line that `part` ends. Assumes nothing.
+use mathlib.Core.Path.{◌≡◌}
+use lib.ListN.{length}
+use borrow.Author.Rules.{rules}
+use Rattle.line_cut.proofs.Keeping.{keeps_fits, kept-part, whole_part}
+use Rattle.line_stream.proofs.Ending.{put_same}
+use Rattle.line_stream.proofs.end_line.Goals as goal
+
+pub returns-then-count-eq0 : goal.returns-then-count-eq0
+returns-then-count-eq0 c =
+    put_same c.args.out.now c.args.at _ _ _ _
+    (whole_part _ c.args.kept.now c.args.part.now c.args.count c.least-n.result c.if-count-eq0.true
+    c.least-n.ensures)
+    c.write_line.ensures
+
+pub write_line-requires-2 : goal.write_line-requires-2
+write_line-requires-2 c =
+    let h : length c.keep-n.new.kept ≡ length c.args.kept.now = search rules in
+    (rw h (keeps_fits c.args.kept.now c.args.part.now _ c.args.count _ c.keep-n.ensures), c.requires.answer_most_in_bounds)
+
+pub returns : goal.returns
+returns c =
+    put_same c.args.out.now c.args.at _ _ _ _
+    (kept-part _ c.args.kept.now c.args.part.now c.keep-n.new.kept c.args.count c.keep-n.result c.requires.kept_len
+    c.keep-n.ensures)
+    c.write_line-2.ensures
