@@ -17,6 +17,6 @@ returns c =
     let l : length c.args.out.now ≡ answer_most = search rules in
     one_held c.args.kept.now c.args.count c.least-n.result c.least-n.ensures w c.if-n-eq0.false c.args.out.now
     c.write_line.result
-    c.write_line.new.1.1.0
+    c.write_line.new.out
     l
     c.write_line.ensures
