@@ -6,6 +6,8 @@ use Prim.Native.Nat.{ℕ, ◌+◌, ◌*◌, ◌≤◌}
 use native.Mathlib.Omega.{arith}
 use lib.Dec.{lit≤}
 use lib.ListN.{length, take, length-take}
+use borrow.Author.Rules.{rules}
+use Rattle.std.proofs.lemmas.List.{take_min}
 use Rattle.line_cut.specs.Stream.{Progress, Streams}
 use Rattle.line_kinds.specs.Kinds.{spread}
 use Rattle.line_stream.specs.Output.{answer_most, call_of, turn_of}
@@ -26,6 +28,6 @@ returns c =
     subst
     (λ (p : Progress (Unit {0})). Streams p c.stream.result.used c.stream.result.count c.stream.result.filled
     c.stream.new.kept c.args.out.now c.stream.new.out)
-    (turns c.args.block.now c.args.kept.now c.args.out.now c.args.count c.min.result c.args.n
-    (search rules) (rw (b, o) (lit≤ tt)))
+    (turns c.args.block.now c.args.kept.now c.args.out.now c.args.count c.min-n.result c.args.n
+    (rw c.min-n.ensures (take_min c.args.n c.args.block.now)) (rw (b, o) (lit≤ tt)))
     c.stream.ensures
