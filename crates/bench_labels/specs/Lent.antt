@@ -21,6 +21,6 @@ left_of c =
 
 -- `check` of a record with these numbers and the labels of `Profile::default()`
 unfoldable pub check_lent_of : Numbers → ℕ → ℕ → Bool → Float → Float → Float → Float → Float → Left
-check_lent_of n signs label set-limits jf v-max v-min a_max_lem a_min_lem =
+check_lent_of n signs label set_limits jf v_max v_min a_max a_min =
     left_of
-    (check_of (signs_of signs) (label_of label) set-limits jf v-max v-min a_max_lem a_min_lem (profile_of n start_labels_of))
+    (check_of (signs_of signs) (label_of label) set_limits jf v_max v_min a_max a_min (profile_of n start_labels_of))

@@ -14,15 +14,15 @@ use Rattle.limits.specs.declared.Band.{Band}
 
 -- UP where v_max is above 0
 abbrev pub direction_of : Float → Direction
-direction_of v-max = cond (lt #0 v-max) UP DOWN
+direction_of v_max = cond (lt #0 v_max) UP DOWN
 
 -- The upper limit is max where the direction is UP, else min; the lower is the other. Each is widened by V_EPS or
 -- A_EPS, both 1e-12.
 unfoldable pub band_of : Float → Float → Float → Band
-band_of v-max max min =
+band_of v_max max min =
     record {
-      low = cond (lt #0 v-max) min max ⊖ #1e-12;
-      upp = cond (lt #0 v-max) max min ⊕ #1e-12;
+      low = cond (lt #0 v_max) min max ⊖ #1e-12;
+      upp = cond (lt #0 v_max) max min ⊕ #1e-12;
     }
 
 abbrev pub within_of : Float → Band → Bool
@@ -52,8 +52,8 @@ five_tests p v a a-kept v-kept =
 
 -- the end is the goal within P_PRECISION, V_PRECISION and A_PRECISION; and the limits are kept
 unfoldable pub end_tests : Nodes → Goal → Band → Band → List Test
-end_tests n g a_band_lem v_band_lem =
+end_tests n g a_band v_band =
     five_tests (lt (abs_of (get_or n.p 7 nan ⊖ g.pf)) #1e-8) (lt (abs_of (get_or n.v 7 nan ⊖ g.vf)) #1e-8)
     (lt (abs_of (get_or n.a 7 nan ⊖ g.af)) #1e-10)
-    (accelerations_kept_of n a_band_lem)
-    (velocities_kept_of n v_band_lem)
+    (accelerations_kept_of n a_band)
+    (velocities_kept_of n v_band)

@@ -22,7 +22,8 @@ use Rattle.line_kinds.specs.declared.Asks.TheVariants.{OfQuartics}
 use Rattle.line_kinds.specs.Kinds.{quartics_places}
 use Rattle.line_frame.specs.Frame.{Frame}
 use Rattle.line_frame.specs.Numbers.{move_finite, move_of, first_answer_of, second_answer_of}
-use Rattle.line_questions.specs.Questions.{ask, counts_fit_of, counts_suit_of, quartics_at, shape_questions, questions_of}
+use Rattle.line_questions.specs.Questions.{ask, counts_fit_of, counts_suit_of, quartics_at, shape_questions}
+use Rattle.line_questions.specs.Questions.{questions_of}
 use Rattle.line_answers.specs.ShapeLine.{shape_line_of, shape_bytes, shape_places}
 use Rattle.line_answers.specs.QuarticLine.{quartic_line_of}
 use Rattle.line_answers.specs.FrameAnswer.{Answer, reply_of, of_shape, replied_of, frame_answer_of}
@@ -31,7 +32,8 @@ use Rattle.line_answers.proofs.Replies.{refused, replied}
 module _ (causes : Bool) (shape : Shape) (at : Frame) (lent : List ℕ) where
   abbrev Is : Bool → ℕ → List ℕ → Type 0
   Is quartics n places =
-      ◌≡◌ {A = Answer} (record { number = n; places = places }) (frame_answer_of (of_shape quartics causes shape) at lent)
+      ◌≡◌ {A = Answer} (record { number = n; places = places })
+      (frame_answer_of (of_shape quartics causes shape) at lent)
 
   abbrev fits : Bool → Bool
   fits quartics = cond quartics true (counts_fit_of shape at)

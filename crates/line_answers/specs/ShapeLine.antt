@@ -15,7 +15,8 @@ use Rattle.line_reply.specs.Reply.{reply_bytes_of, causes_bytes_of, written_of}
 unfoldable pub shape_line_of : Shape → Frame → Checked
 shape_line_of shape at =
     let x = move_of at in
-    shape_of shape (solver_of x) (limits_of x) (quartics_at shape at) (first_answer_of at) (second_answer_of at) (fresh x)
+    shape_of shape (solver_of x) (limits_of x) (quartics_at shape at) (first_answer_of at) (second_answer_of at)
+    (fresh x)
 
 -- the reply of what a shape left, with count and cause or without: its bytes, its places, and it in the lent ones
 abbrev pub shape_bytes : Bool → Checked → List ℕ

@@ -1,5 +1,6 @@
 // The answer to a frame of the length of its kind, by what it asks.
 #![tactic(auto)]
+
 mod check_line;
 mod shape_line;
 

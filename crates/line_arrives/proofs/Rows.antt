@@ -58,12 +58,15 @@ row_back before n e (x ∷ xs) after zero l f =
     subst (λ (k : ℕ). number_at (byte_at (before ++ (number_bytes_of x ++ numbers_bytes xs ++ after))) k ≡ x)
     (e ∙ first-place n)
     (subst (λ (r : List ℕ). number_at (byte_at (before ++ r)) (length before) ≡ x)
-    (sym (append_assoc (number_bytes_of x) (numbers_bytes xs) after)) (number_among before x (numbers_bytes xs ++ after) f))
+    (sym (append_assoc (number_bytes_of x) (numbers_bytes xs) after))
+    (number_among before x (numbers_bytes xs ++ after) f))
 row_back before n e (x ∷ xs) after (suc i) l f =
-    subst (λ (k : ℕ). number_at (byte_at (before ++ (number_bytes_of x ++ numbers_bytes xs ++ after))) k ≡ get_or xs i nan)
+    subst (λ (k : ℕ). number_at
+    (byte_at (before ++ (number_bytes_of x ++ numbers_bytes xs ++ after))) k ≡ get_or xs i nan)
     (next_place n i)
     (subst (λ (r : List ℕ). number_at (byte_at r) (n + 8 + 8 * i) ≡ get_or xs i nan) moved
-    (row_back (before ++ number_bytes_of x) (n + 8) (length-append before (number_bytes_of x) ∙ ap (λ (k : ℕ). k + 8) e) xs
+    (row_back (before ++ number_bytes_of x) (n + 8)
+    (length-append before (number_bytes_of x) ∙ ap (λ (k : ℕ). k + 8) e) xs
     after i (le_of_suc-le-suc l) f))
   where
     moved : before ++ number_bytes_of x ++ (numbers_bytes xs ++ after)
@@ -83,7 +86,8 @@ module _ (h t s j a v p rest : List ℕ) where
 -- the same rows as numbers, after a head of four bytes
 module _ (h : List ℕ) (t s j a v p : List Float) (rest : List ℕ) (four : length h ≡ 4) where
   abbrev all : List ℕ
-  all = h ++ (numbers_bytes t ++ numbers_bytes s ++ numbers_bytes j ++ numbers_bytes a ++ numbers_bytes v ++ numbers_bytes p)
+  all = h ++ (numbers_bytes t ++ numbers_bytes s ++ numbers_bytes j ++ numbers_bytes a ++ numbers_bytes v
+      ++ numbers_bytes p)
       ++ rest
 
   first-row : (i : ℕ) → i < length t → T (fits binary64 (get_or t i nan))

@@ -66,7 +66,8 @@ module _ (line lent : List ℕ) (none : (answer_of line lent).number ≡ 0) (k :
   lengths =
       let at = byte_at (bytes_of line) in
       let m = move_in line in
-      (shape_keeps k.shape (solver_of m) (limits_of m) (quartics_at k.shape at) (first_answer_of at) (second_answer_of at)
+      (shape_keeps k.shape (solver_of m) (limits_of m) (quartics_at k.shape at) (first_answer_of at)
+      (second_answer_of at)
       (fresh m) (fresh_lengths m.p0 m.v0 m.a0 m.pf m.vf m.af)
       ).lengths
 

@@ -88,7 +88,8 @@ module _ (line lent : List ℕ) where
   module _ (said : (answer_of line lent).number ≡ 0) where
     pub frame_yes : AllYes (frame_questions at (row_for line) (length lent))
     frame_yes =
-        all_rest (line_questions_of line (row_for line)) (frame_questions at (row_for line) (length lent)) (every_yes said)
+        all_rest (line_questions_of line (row_for line)) (frame_questions at (row_for line) (length lent))
+        (every_yes said)
 
     places-enough : (row_for line).places ≤ length lent
     places-enough =

@@ -60,7 +60,8 @@ shape_lengths : (shape : Shape) (at : Frame) → Lengths (shape_line_of shape at
 unfolding shape_line_of
 shape_lengths shape at =
     let x = move_of at in
-    (shape_keeps shape (solver_of x) (limits_of x) (quartics_at shape at) (first_answer_of at) (second_answer_of at) (fresh x)
+    (shape_keeps shape (solver_of x) (limits_of x) (quartics_at shape at) (first_answer_of at) (second_answer_of at)
+    (fresh x)
     (fresh_lengths _ _ _ _ _ _)
     ).lengths
 

@@ -32,7 +32,8 @@ module _ (body : List ℕ) where
   abbrev bs : List ℕ
   bs = bytes_of body
 
-  same-questions : questions_of (OfShape RestToRest) (byte_at (8 ∷ bs)) ≡ questions_of (OfShape Acc0Acc1) (byte_at (4 ∷ bs))
+  same-questions : questions_of (OfShape RestToRest) (byte_at (8 ∷ bs)) ≡ questions_of (OfShape Acc0Acc1)
+      (byte_at (4 ∷ bs))
   unfolding questions_of counts_fit_of counts_suit_of move_of word_at
   same-questions = refl
 

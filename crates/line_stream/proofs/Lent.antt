@@ -52,7 +52,8 @@ module _ (line out places : List ℕ) (at n m : ℕ) (h : at + answer_most ≤ l
       let l : m ≡ length (reply_to_of line) = filled_is said ∙ sym (reply-exact line lent said) in
       let w : m ≤ reply_most = filled_few in
       let b : at + length (reply_to_of line) ≤ length out = omega arith in
-      let p : places ≡ reply_to_of line ++ drop (length (reply_to_of line)) lent = places_are ∙ reply-first line lent said in
+      let p : places ≡ reply_to_of line ++ drop (length (reply_to_of line)) lent =
+      places_are ∙ reply-first line lent said in
       rw (l, output_reply line lent room said)
       (put_last out (reply_to_of line) (back out at places) at 10
       (ap (back out at) p ∙ back-reply out (reply_to_of line) at b))

@@ -1,5 +1,6 @@
 // The line entry's answers to the lines of blocks of characters, in constant memory.
 #![tactic(auto)]
+
 mod answer;
 
 ghost use Rattle.std.specs.Prelude.{◌≡◌, ◌++◌, ◌+◌, ◌≤◌, length, take};

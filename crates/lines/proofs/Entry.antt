@@ -15,7 +15,8 @@ use Rattle.line_kinds.specs.declared.Row.{Row}
 use Rattle.line_kinds.specs.Kinds.{frame_most, line_most, places_of, row_of}
 use Rattle.line_kinds.proofs.Rows.{sound}
 use Rattle.line_frame.specs.Frame.{Frame, byte_at}
-use Rattle.line_questions.specs.Questions.{Question, ask, length_fits_of, is_kind, bytes_fit, questions_of, line_questions_of}
+use Rattle.line_questions.specs.Questions.{Question, ask, length_fits_of, is_kind, bytes_fit, questions_of}
+use Rattle.line_questions.specs.Questions.{line_questions_of}
 use Rattle.line_questions.specs.Questions.{AllYes}
 use Rattle.line_questions.proofs.Asked.{past}
 use Rattle.line_answers.specs.FrameAnswer.{Answer, reply_of, replied_of, frame_answer_of}
@@ -72,7 +73,8 @@ module _ (line lent : List ℕ) where
   unfolding outcome_of
   numbered n e z = rw (← e, ne_eqb n 0 z)
 
-  pub first : length_fits_of (length line) ≡ false → record { number = 1; filled = 0; places = lent } ≡ outcome_of line lent
+  pub first : length_fits_of (length line) ≡ false
+      → record { number = 1; filled = 0; places = lent } ≡ outcome_of line lent
   unfolding answer_of
   first h = numbered 1 (refused _ lent [] 1 _ tt h (λ e. omega arith)) (λ e. omega arith)
 
@@ -83,7 +85,8 @@ module _ (line lent : List ℕ) where
     unfolding decode_of
     decoded =
         let o : length line % 2 ≡ 1 → ⊥ = λ x. odd (length line % 2) (even (length line) h1) x in
-        let m : length line / 2 ≤ length {A = ℕ} (replicate frame_most 0) = room (length line) (most (length line) h1) in
+        let m : length line / 2 ≤ length {A = ℕ} (replicate frame_most 0) =
+        room (length line) (most (length line) h1) in
         e ∙ rw (ne_eqb (length line % 2) 1 o, le-ltb (length {A = ℕ} (replicate frame_most 0)) (length line / 2) m)
       where
         odd : (n : ℕ) → n ≡ 0 → n ≡ 1 → ⊥
@@ -114,7 +117,8 @@ module _ (line lent : List ℕ) where
       unfolding answer_of
       third z =
           numbered 3
-          (refused _ lent (ask 1 (length_fits_of (length line)) ∷ ask 2 (all_digits_of line) ∷ []) 3 _ (h1, (digits, tt))
+          (refused _ lent (ask 1 (length_fits_of (length line)) ∷ ask 2 (all_digits_of line) ∷ []) 3 _
+          (h1, (digits, tt))
           (rw (← row_is, z)) (λ e. omega arith))
           (λ e. omega arith)
 
@@ -127,7 +131,8 @@ module _ (line lent : List ℕ) where
         unfolding answer_of
         fourth d =
             numbered 4
-            (refused _ lent (ask 1 (length_fits_of (length line)) ∷ ask 2 (all_digits_of line) ∷ ask 3 (is_kind row) ∷ []) 4 _
+            (refused _ lent (ask 1 (length_fits_of (length line)) ∷ ask 2 (all_digits_of line) ∷ ask 3
+            (is_kind row) ∷ []) 4 _
             (h1, (digits, (kind_is, tt)))
             (rw (← row_is, ← half line, ne_eqb (length line / 2) r.bytes d)) (λ e. omega arith))
             (λ e. omega arith)

@@ -1,6 +1,7 @@
 // The line entry: one frame a line, in hexadecimal digits, answered by a reply or by the number of
 // the first question that it fails.
 #![tactic(auto)]
+
 ghost use Rattle.std.specs.Prelude.{◌≡◌};
 ghost use Rattle.lines.specs.Answer.{answer_of, outcome_of};
 

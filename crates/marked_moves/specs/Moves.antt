@@ -1,5 +1,6 @@
 -- The moves that documents 01 and 02 work through, as rows of one table: each move is a line, and its row says what the
--- line entry answers. The root of 2 and the quartic are no lines: their rows are of `sqrt_of`, `roots_of` and `sorted_of`.
+-- line entry answers. The root of 2 and the quartic are no lines: their rows are of `sqrt_of`, `roots_of` and
+-- `sorted_of`.
 -- Definitions only.
 use Rattle.std.specs.Prelude.{Bool, true, false, ◌&&◌, List, [], ◌∷◌, ◌++◌, ℕ, ◌+◌, ◌*◌, eqb, replicate, Float}
 use Rattle.std.specs.Float.{nan, binary64}
@@ -161,7 +162,8 @@ table =
     ∷ all_same (roots_of (neg #3) #2 #0 #0 (CubeRoot #0)) (#0 ∷ #1 ∷ #2 ∷ [])
     ∷ all_same (sorted_of (roots_of (neg #3) #2 #0 #0 (CubeRoot #0))) (#0 ∷ #1 ∷ #2 ∷ [])
     -- whole case: 00000700 and 288 zeros print 01070100 and 720 zeros
-    ∷ all_equal (answer_of (48 ∷ 48 ∷ 48 ∷ 48 ∷ 48 ∷ 55 ∷ 48 ∷ 48 ∷ replicate 288 48) (replicate record_places 0)).places
+    ∷ all_equal (answer_of (48 ∷ 48 ∷ 48 ∷ 48 ∷ 48 ∷ 55 ∷ 48 ∷ 48 ∷ replicate 288 48)
+    (replicate record_places 0)).places
     (48 ∷ 49 ∷ 48 ∷ 55 ∷ 48 ∷ 49 ∷ 48 ∷ 48 ∷ replicate 720 48)
     -- an empty line gets number 1
     ∷ eqb (answer_of [] (replicate reply_most 0)).number 1

@@ -13,6 +13,6 @@ summed_of n =
     record { ok = sums.ok; left = with_sums sums.left n }
 
 unfoldable pub moved_of : Tests → Bool → Float → Float → Band → Numbers → Step Numbers
-moved_of m set-limits a_max_lem a_min_lem b n =
-    let nodes = run (phase_of m set-limits a_max_lem a_min_lem b n.t n.j) 7 0 n.nodes in
+moved_of m set_limits a_max a_min b n =
+    let nodes = run (phase_of m set_limits a_max a_min b n.t n.j) 7 0 n.nodes in
     record { ok = nodes.ok; left = with_nodes nodes.left n }

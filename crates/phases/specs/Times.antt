@@ -10,7 +10,8 @@ use Rattle.phases.specs.Run.{Step, yes!, no!, run}
 
 -- t_sum[i + 1] = t_sum[i] + t[i + 1], unless t[i + 1] is below 0; -0 and NaN are not
 unfoldable pub step_of_sums : List Float → ℕ → List Float → Step (List Float)
-step_of_sums t i s = cond (lt (get_or t (i + 1) nan) #0) (no! s) (yes! (set s (i + 1) (get_or s i nan ⊕ get_or t (i + 1) nan)))
+step_of_sums t i s = cond (lt (get_or t (i + 1) nan) #0) (no! s)
+    (yes! (set s (i + 1) (get_or s i nan ⊕ get_or t (i + 1) nan)))
 
 unfoldable pub sums_of : List Float → List Float → Step (List Float)
 sums_of t s = cond (lt (get_or t 0 nan) #0) (no! s) (run (step_of_sums t) 6 0 (set s 0 (get_or t 0 nan)))

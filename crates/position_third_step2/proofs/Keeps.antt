@@ -68,7 +68,8 @@ sums t s h = either (lt (get_or t 0 nan) #0)
     either : (b : Bool) → Seven (cond b (no! s) (run (step_of_sums t) 6 0 (set s 0 (get_or t 0 nan)))).left
     either true = h
     either false =
-        run_keeps Seven (step_of_sums t) (sum_step t) 6 0 (set s 0 (get_or t 0 nan)) (length-set s 0 (get_or t 0 nan) ∙ h)
+        run_keeps Seven (step_of_sums t) (sum_step t) 6 0 (set s 0 (get_or t 0 nan))
+        (length-set s 0 (get_or t 0 nan) ∙ h)
 
 jerks : (signs : ControlSigns) (t : List Float) (jf : Float) → Seven (jerks_of signs t jf)
 unfolding jerks_of
@@ -80,8 +81,8 @@ record Eight (n : Nodes) : Type 0 where
   of_v : length n.v ≡ 8
   of_p : length n.p ≡ 8
 
-module _ (m : Tests) (set-limits : Bool) (a_max_lem a_min_lem : Float) (b : Band) (t j : List Float) where
-  phase : (i : ℕ) (n : Nodes) → Eight n → Eight (phase_of m set-limits a_max_lem a_min_lem b t j i n).left
+module _ (m : Tests) (set_limits : Bool) (a_max a_min : Float) (b : Band) (t j : List Float) where
+  phase : (i : ℕ) (n : Nodes) → Eight n → Eight (phase_of m set_limits a_max a_min b t j i n).left
   unfolding phase_of node_of
   phase i n h =
       record {
@@ -90,8 +91,8 @@ module _ (m : Tests) (set-limits : Bool) (a_max_lem a_min_lem : Float) (b : Band
         of_p = length-set n.p (i + 1) _ ∙ h.of_p;
       }
 
-  phases : (n : Nodes) → Eight n → Eight (run (phase_of m set-limits a_max_lem a_min_lem b t j) 7 0 n).left
-  phases n h = run_keeps Eight (phase_of m set-limits a_max_lem a_min_lem b t j) phase 7 0 n h
+  phases : (n : Nodes) → Eight n → Eight (run (phase_of m set_limits a_max a_min b t j) 7 0 n).left
+  phases n h = run_keeps Eight (phase_of m set_limits a_max a_min b t j) phase 7 0 n h
 
 -- ---- the record that `check` is handed, and that it leaves
 pub record Lengths (q : Profile) : Type 0 where
@@ -137,18 +138,18 @@ keeps_cond : (b : Bool) {c d : Checked} → Leaves c → Leaves d → Leaves (co
 keeps_cond true h k = h
 keeps_cond false h k = k
 
-pub check_keeps : (signs : ControlSigns) (limits : ReachedLimits) (set-limits : Bool)
-    (jf v-max v-min a_max_lem a_min_lem : Float)
-    → Keeps (check_of signs limits set-limits jf v-max v-min a_max_lem a_min_lem)
-check_keeps signs limits set-limits jf v-max v-min a_max_lem a_min_lem q h =
+pub check_keeps : (signs : ControlSigns) (limits : ReachedLimits) (set_limits : Bool)
+    (jf v_max v_min a_max a_min : Float)
+    → Keeps (check_of signs limits set_limits jf v_max v_min a_max a_min)
+check_keeps signs limits set_limits jf v_max v_min a_max a_min q h =
     let hs = sums q.t q.t_sum h.seven_t_sum in
     let hj = jerks signs q.t jf in
-    let hn = phases (tests_of limits) set-limits a_max_lem a_min_lem (band_of v-max v-max v-min) q.t (jerks_of signs q.t jf)
+    let hn = phases (tests_of limits) set_limits a_max a_min (band_of v_max v_max v_min) q.t (jerks_of signs q.t jf)
     (nodes_of q) (nodes h) in
     let k = byte q.calls in
     record {
       lengths =
-          leaves signs limits set-limits jf v-max v-min a_max_lem a_min_lem q (λ (z : Profile). Lengths z)
+          leaves signs limits set_limits jf v_max v_min a_max a_min q (λ (z : Profile). Lengths z)
           (parts h.seven_t hs h.seven_j (nodes h) k) (parts h.seven_t hs hj hn k)
           (parts h.seven_t hs hj hn k);
     }

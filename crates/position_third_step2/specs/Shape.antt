@@ -64,6 +64,6 @@ fresh x = boundary_of x.p0 x.v0 x.a0 x.pf x.vf x.af default_of
 abbrev pub unasked : RootAnswer
 unasked = CubeRoot #0
 
-abbrev pub limits : (v-max v-min a_max_lem a_min_lem j_max_lem : Float) → Limits
-limits v-max v-min a_max_lem a_min_lem j_max_lem =
-    record { v_max = v-max; v_min = v-min; a_max = a_max_lem; a_min = a_min_lem; j_max = j_max_lem }
+abbrev pub limits : (v_max v_min a_max a_min j_max : Float) → Limits
+limits v_max v_min a_max a_min j_max =
+    record { v_max = v_max; v_min = v_min; a_max = a_max; a_min = a_min; j_max = j_max }

@@ -25,11 +25,11 @@ use Rattle.profile.proofs.Left.{sums, nodes, times, summed, stopped, ended, leav
 
 -- ---- the tests: their causes are 1 to 11, in this order
 module _ (m : Tests) (t : List Float) (s : Step (List Float)) (n : Step Nodes) (goal : Goal)
-    (a_band_lem v_band_lem : Band) where
+    (a_band v_band : Band) where
   abbrev tests : List Test
-  tests = check_tests m t s n goal a_band_lem v_band_lem
+  tests = check_tests m t s n goal a_band v_band
 
-  pub in_order : causes_in (check_tests m t s n goal a_band_lem v_band_lem)
+  pub in_order : causes_in (check_tests m t s n goal a_band v_band)
       ≡ 1 ∷ 2 ∷ 3 ∷ 4 ∷ 5 ∷ 6 ∷ 7 ∷ 8 ∷ 9 ∷ 10 ∷ 11 ∷ []
   unfolding label_tests end_tests
   in_order = refl
@@ -65,64 +65,64 @@ same_ways true true x y z x' y' z' ex ey ez = ey
 same_ways true false x y z x' y' z' ex ey ez = ez
 same_ways false o x y z x' y' z' ex ey ez = ex
 
-module _ (signs : ControlSigns) (limits : ReachedLimits) (set-limits : Bool) (jf v-max v-min a_max_lem a_min_lem : Float)
+module _ (signs : ControlSigns) (limits : ReachedLimits) (set_limits : Bool) (jf v_max v_min a_max a_min : Float)
     (q : Profile) where
   abbrev s : Step (List Float)
-  s = sums signs limits set-limits jf v-max v-min a_max_lem a_min_lem q
+  s = sums signs limits set_limits jf v_max v_min a_max a_min q
 
   abbrev n : Step Nodes
-  n = nodes signs limits set-limits jf v-max v-min a_max_lem a_min_lem q
+  n = nodes signs limits set_limits jf v_max v_min a_max a_min q
 
   abbrev made : List Test
-  made = tests (tests_of limits) q.t s n (goal_of q) (band_of v-max a_max_lem a_min_lem) (band_of v-max v-max v-min)
+  made = tests (tests_of limits) q.t s n (goal_of q) (band_of v_max a_max a_min) (band_of v_max v_max v_min)
 
-  pub one_call_more : (check_of signs limits set-limits jf v-max v-min a_max_lem a_min_lem q).profile.calls
+  pub one_call_more : (check_of signs limits set_limits jf v_max v_min a_max a_min q).profile.calls
       ≡ counted_of q.calls
   one_call_more =
-      leaves signs limits set-limits jf v-max v-min a_max_lem a_min_lem q (λ z. z.calls ≡ counted_of q.calls) refl refl
+      leaves signs limits set_limits jf v_max v_min a_max a_min q (λ z. z.calls ≡ counted_of q.calls) refl refl
       refl
 
-  cause_is : (check_of signs limits set-limits jf v-max v-min a_max_lem a_min_lem q).profile.cause ≡ cause_of made
+  cause_is : (check_of signs limits set_limits jf v_max v_min a_max a_min q).profile.cause ≡ cause_of made
   cause_is =
-      leaves signs limits set-limits jf v-max v-min a_max_lem a_min_lem q (λ z. z.cause ≡ cause_of made) refl refl refl
+      leaves signs limits set_limits jf v_max v_min a_max a_min q (λ z. z.cause ≡ cause_of made) refl refl refl
 
   -- the verdict is yes exactly where the cause is
-  pub yes_is_cause : (check_of signs limits set-limits jf v-max v-min a_max_lem a_min_lem q).ok
-      ≡ is_yes (check_of signs limits set-limits jf v-max v-min a_max_lem a_min_lem q).profile.cause
+  pub yes_is_cause : (check_of signs limits set_limits jf v_max v_min a_max a_min q).ok
+      ≡ is_yes (check_of signs limits set_limits jf v_max v_min a_max a_min q).profile.cause
   unfolding check_of
   yes_is_cause =
-      verdict_is_cause (tests_of limits) q.t s n (goal_of q) (band_of v-max a_max_lem a_min_lem) (band_of v-max v-max v-min)
+      verdict_is_cause (tests_of limits) q.t s n (goal_of q) (band_of v_max a_max a_min) (band_of v_max v_max v_min)
       ∙ ap is_yes (sym cause_is)
 
   -- the cause after a call is not 12
   pub a_call_has_a_cause :
-      T (leb (cause_number_of (check_of signs limits set-limits jf v-max v-min a_max_lem a_min_lem q).profile.cause) 11)
+      T (leb (cause_number_of (check_of signs limits set_limits jf v_max v_min a_max a_min q).profile.cause) 11)
   a_call_has_a_cause =
       subst (λ (c : Cause). T (leb (cause_number_of c) 11)) (sym cause_is)
-      (some-cause (tests_of limits) q.t s n (goal_of q) (band_of v-max a_max_lem a_min_lem) (band_of v-max v-max v-min))
+      (some-cause (tests_of limits) q.t s n (goal_of q) (band_of v_max a_max a_min) (band_of v_max v_max v_min))
 
   -- the cause before is not looked at: that of the last call alone counts
   pub cause_anew : (k : ℕ) (c : Cause)
-      → (check_of signs limits set-limits jf v-max v-min a_max_lem a_min_lem (noted k c q)).profile.cause
-      ≡ (check_of signs limits set-limits jf v-max v-min a_max_lem a_min_lem q).profile.cause
+      → (check_of signs limits set_limits jf v_max v_min a_max a_min (noted k c q)).profile.cause
+      ≡ (check_of signs limits set_limits jf v_max v_min a_max a_min q).profile.cause
   cause_anew k c =
-      leaves signs limits set-limits jf v-max v-min a_max_lem a_min_lem (noted k c q) (λ z. z.cause ≡ cause_of made) refl refl
+      leaves signs limits set_limits jf v_max v_min a_max a_min (noted k c q) (λ z. z.cause ≡ cause_of made) refl refl
       refl
       ∙ sym cause_is
 
   -- Demand 2 leaves count and cause out: whatever they were, the verdict and the Rust's record are the same.
   pub apart : (k : ℕ) (c : Cause)
-      → rust_of (check_of signs limits set-limits jf v-max v-min a_max_lem a_min_lem (noted k c q))
-      ≡ rust_of (check_of signs limits set-limits jf v-max v-min a_max_lem a_min_lem q)
+      → rust_of (check_of signs limits set_limits jf v_max v_min a_max a_min (noted k c q))
+      ≡ rust_of (check_of signs limits set_limits jf v_max v_min a_max a_min q)
   unfolding check_of
   apart k c =
       let q' = noted k c q in
       ap (λ (r : Profile). record { ok = none_fails made; profile = r })
-      (same_ways (none_fails (times signs limits set-limits jf v-max v-min a_max_lem a_min_lem q)) n.ok
-      (summed signs limits set-limits jf v-max v-min a_max_lem a_min_lem q')
-      (ended signs limits set-limits jf v-max v-min a_max_lem a_min_lem q')
-      (stopped signs limits set-limits jf v-max v-min a_max_lem a_min_lem q')
-      (summed signs limits set-limits jf v-max v-min a_max_lem a_min_lem q)
-      (ended signs limits set-limits jf v-max v-min a_max_lem a_min_lem q)
-      (stopped signs limits set-limits jf v-max v-min a_max_lem a_min_lem q)
+      (same_ways (none_fails (times signs limits set_limits jf v_max v_min a_max a_min q)) n.ok
+      (summed signs limits set_limits jf v_max v_min a_max a_min q')
+      (ended signs limits set_limits jf v_max v_min a_max a_min q')
+      (stopped signs limits set_limits jf v_max v_min a_max a_min q')
+      (summed signs limits set_limits jf v_max v_min a_max a_min q)
+      (ended signs limits set_limits jf v_max v_min a_max a_min q)
+      (stopped signs limits set_limits jf v_max v_min a_max a_min q)
       refl refl refl)

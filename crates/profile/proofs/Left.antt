@@ -33,10 +33,10 @@ any_way P false c x y z h k l = h
 last_way : (b c : Bool) (x y z : Profile) → b ≡ true → c ≡ true → cond b (cond c y z) x ≡ y
 last_way b c x y z h k = rw (h, k)
 
-module _ (signs : ControlSigns) (limits : ReachedLimits) (set-limits : Bool) (jf v-max v-min a_max_lem a_min_lem : Float)
+module _ (signs : ControlSigns) (limits : ReachedLimits) (set_limits : Bool) (jf v_max v_min a_max a_min : Float)
     (q : Profile) where
   abbrev pub check : Checked
-  check = check_of signs limits set-limits jf v-max v-min a_max_lem a_min_lem q
+  check = check_of signs limits set_limits jf v_max v_min a_max a_min q
 
   abbrev pub sums : Step (List Float)
   sums = sums_of q.t q.t_sum
@@ -44,14 +44,14 @@ module _ (signs : ControlSigns) (limits : ReachedLimits) (set-limits : Bool) (jf
   abbrev pub jerks : List Float
   jerks = jerks_of signs q.t jf
 
-  abbrev pub v_band_lem : Band
-  v_band_lem = band_of v-max v-max v-min
+  abbrev pub v_band : Band
+  v_band = band_of v_max v_max v_min
 
-  abbrev pub a_band_lem : Band
-  a_band_lem = band_of v-max a_max_lem a_min_lem
+  abbrev pub a_band : Band
+  a_band = band_of v_max a_max a_min
 
   abbrev pub nodes : Step Nodes
-  nodes = run (phase_of (tests_of limits) set-limits a_max_lem a_min_lem v_band_lem q.t jerks) 7 0 (nodes_of q)
+  nodes = run (phase_of (tests_of limits) set_limits a_max a_min v_band q.t jerks) 7 0 (nodes_of q)
 
   -- ---- the tests of the times, and the others
   abbrev pub of_label : List Test
@@ -61,7 +61,7 @@ module _ (signs : ControlSigns) (limits : ReachedLimits) (set-limits : Bool) (jf
   times = time_tests (tests_of limits) q.t sums
 
   abbrev pub at_end : List Test
-  at_end = end_tests nodes.left (goal_of q) a_band_lem v_band_lem
+  at_end = end_tests nodes.left (goal_of q) a_band v_band
 
   abbrev pub others : List Test
   others = test VelocityAtZero nodes.ok ∷ at_end
@@ -77,10 +77,10 @@ module _ (signs : ControlSigns) (limits : ReachedLimits) (set-limits : Bool) (jf
   moved = with_nodes nodes.left (with_jerks jerks (with_sums sums.left (numbers_of q)))
 
   abbrev pub stopped : Profile
-  stopped = profile_of moved (noting q.limits (direction_of v-max) q.control_signs)
+  stopped = profile_of moved (noting q.limits (direction_of v_max) q.control_signs)
 
   abbrev pub ended : Profile
-  ended = profile_of moved (noting limits (direction_of v-max) signs)
+  ended = profile_of moved (noting limits (direction_of v_max) signs)
 
   pub leaves : (P : Profile → Type 0) → P summed → P stopped → P ended → P check.profile
   unfolding check_of

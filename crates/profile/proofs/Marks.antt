@@ -50,66 +50,66 @@ given_cause true true c h e = omega arith
 given_cause true false c h e = omega arith
 given_cause false ok c h e = omega arith
 
-module _ (signs : ControlSigns) (limits : ReachedLimits) (jf v-max v-min a_max_lem a_min_lem : Float) (marked : Bool)
+module _ (signs : ControlSigns) (limits : ReachedLimits) (jf v_max v_min a_max a_min : Float) (marked : Bool)
     (q : Profile) where
   abbrev checked : Checked
-  checked = check_of signs limits false jf v-max v-min a_max_lem a_min_lem q
+  checked = check_of signs limits false jf v_max v_min a_max a_min q
 
-  pub timing_calls : (timing_of signs limits jf v-max v-min a_max_lem a_min_lem marked q).profile.calls ≡ counted_of q.calls
+  pub timing_calls : (timing_of signs limits jf v_max v_min a_max a_min marked q).profile.calls ≡ counted_of q.calls
   unfolding timing_of
-  timing_calls = one_call_more signs limits false jf v-max v-min a_max_lem a_min_lem q
+  timing_calls = one_call_more signs limits false jf v_max v_min a_max a_min q
 
   -- the verdict is yes exactly where the cause is
-  pub timing_verdict : (timing_of signs limits jf v-max v-min a_max_lem a_min_lem marked q).ok
-      ≡ is_yes (timing_of signs limits jf v-max v-min a_max_lem a_min_lem marked q).profile.cause
+  pub timing_verdict : (timing_of signs limits jf v_max v_min a_max a_min marked q).ok
+      ≡ is_yes (timing_of signs limits jf v_max v_min a_max a_min marked q).profile.cause
   unfolding timing_of
   timing_verdict =
       given_verdict marked checked.ok checked.profile.cause
-      (yes_is_cause signs limits false jf v-max v-min a_max_lem a_min_lem q)
+      (yes_is_cause signs limits false jf v_max v_min a_max a_min q)
 
   -- the cause after a call is not 12
-  pub timing_cause : cause_number_of (timing_of signs limits jf v-max v-min a_max_lem a_min_lem marked q).profile.cause ≡ 12 → ⊥
+  pub timing_cause : cause_number_of (timing_of signs limits jf v_max v_min a_max a_min marked q).profile.cause ≡ 12 → ⊥
   unfolding timing_of
   timing_cause =
       given_cause marked checked.ok checked.profile.cause
-      (leb→le _ 11 (a_call_has_a_cause signs limits false jf v-max v-min a_max_lem a_min_lem q))
+      (leb→le _ 11 (a_call_has_a_cause signs limits false jf v_max v_min a_max a_min q))
 
   -- a marked call that says no has the cause 13, one without a mark has one from 0 to 11
-  pub timing_marked : marked ≡ true → (timing_of signs limits jf v-max v-min a_max_lem a_min_lem marked q).ok ≡ false
-      → (timing_of signs limits jf v-max v-min a_max_lem a_min_lem marked q).profile.cause ≡ NoRoot
+  pub timing_marked : marked ≡ true → (timing_of signs limits jf v_max v_min a_max a_min marked q).ok ≡ false
+      → (timing_of signs limits jf v_max v_min a_max a_min marked q).profile.cause ≡ NoRoot
   unfolding timing_of
   timing_marked e h = rw (e, h)
 
   pub timing_unmarked : marked ≡ false
-      → cause_number_of (timing_of signs limits jf v-max v-min a_max_lem a_min_lem marked q).profile.cause ≤ 11
+      → cause_number_of (timing_of signs limits jf v_max v_min a_max a_min marked q).profile.cause ≤ 11
   unfolding timing_of
-  timing_unmarked e = rw e (leb→le _ 11 (a_call_has_a_cause signs limits false jf v-max v-min a_max_lem a_min_lem q))
+  timing_unmarked e = rw e (leb→le _ 11 (a_call_has_a_cause signs limits false jf v_max v_min a_max a_min q))
 
   -- whatever count and cause were, the cause is the same, and so are the verdict and the Rust's record
   pub timing_anew : (k : ℕ) (c : Cause)
-      → (timing_of signs limits jf v-max v-min a_max_lem a_min_lem marked (noted k c q)).profile.cause
-      ≡ (timing_of signs limits jf v-max v-min a_max_lem a_min_lem marked q).profile.cause
+      → (timing_of signs limits jf v_max v_min a_max a_min marked (noted k c q)).profile.cause
+      ≡ (timing_of signs limits jf v_max v_min a_max a_min marked q).profile.cause
   unfolding timing_of
   timing_anew k c =
-      given_anew (ap (λ (r : Checked). r.ok) (apart signs limits false jf v-max v-min a_max_lem a_min_lem q k c))
-      (cause_anew signs limits false jf v-max v-min a_max_lem a_min_lem q k c)
+      given_anew (ap (λ (r : Checked). r.ok) (apart signs limits false jf v_max v_min a_max a_min q k c))
+      (cause_anew signs limits false jf v_max v_min a_max a_min q k c)
     where
       given_anew : {b b' : Bool} {c c' : Cause} → b ≡ b' → c ≡ c' → given marked b c ≡ given marked b' c'
       given_anew e h = rw (e, h)
 
   pub timing_apart : (k : ℕ) (c : Cause)
-      → rust_of (timing_of signs limits jf v-max v-min a_max_lem a_min_lem marked (noted k c q))
-      ≡ rust_of (timing_of signs limits jf v-max v-min a_max_lem a_min_lem marked q)
+      → rust_of (timing_of signs limits jf v_max v_min a_max a_min marked (noted k c q))
+      ≡ rust_of (timing_of signs limits jf v_max v_min a_max a_min marked q)
   unfolding timing_of
-  timing_apart = apart signs limits false jf v-max v-min a_max_lem a_min_lem q
+  timing_apart = apart signs limits false jf v_max v_min a_max a_min q
 
   -- ---- `check_with_timing_full`: the count of an attempt that the jerk keeps from `check` does not rise, and its
   -- cause is 13 where it is marked, else the one before
-  pub kept-from_check : (j_max_lem : Float) → lt (abs_of jf) (abs_of j_max_lem ⊕ #1e-12) ≡ false
-      → timing_full_of signs limits jf v-max v-min a_max_lem a_min_lem j_max_lem marked q
+  pub kept-from_check : (j_max : Float) → lt (abs_of jf) (abs_of j_max ⊕ #1e-12) ≡ false
+      → timing_full_of signs limits jf v_max v_min a_max a_min j_max marked q
       ≡ record { ok = false; profile = noted q.calls (cond marked NoRoot q.cause) q }
   unfolding timing_full_of
-  kept-from_check j_max_lem h = rw h (by marked)
+  kept-from_check j_max h = rw h (by marked)
     where
       by : (m : Bool) → marked_by m (record { ok = false; profile = q })
           ≡ record { ok = false; profile = noted q.calls (cond m NoRoot q.cause) q }

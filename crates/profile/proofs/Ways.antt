@@ -34,17 +34,17 @@ label-none : (m : Tests) (t s : List Float)
 unfolding label_tests
 label-none m t s = none_fails_lem (label_tests m t s) (refl, (refl, (refl, (refl, tt))))
 
-end_none : (n : Nodes) (g : Goal) (a_band_lem v_band_lem : Band)
-    → none_fails (end_tests n g a_band_lem v_band_lem) ≡ is_yes (cause_of (end_tests n g a_band_lem v_band_lem))
+end_none : (n : Nodes) (g : Goal) (a_band v_band : Band)
+    → none_fails (end_tests n g a_band v_band) ≡ is_yes (cause_of (end_tests n g a_band v_band))
 unfolding end_tests
-end_none n g a_band_lem v_band_lem =
-    none_fails_lem (end_tests n g a_band_lem v_band_lem) (refl, (refl, (refl, (refl, (refl, tt)))))
+end_none n g a_band v_band =
+    none_fails_lem (end_tests n g a_band v_band) (refl, (refl, (refl, (refl, (refl, tt)))))
 
 -- n₀ is what `check` is handed, n₁ what it has after the sums, n₂ after the jerks, n₃ after the phases
-module _ (signs : ControlSigns) (limits : ReachedLimits) (set-limits : Bool) (jf v-max v-min a_max_lem a_min_lem : Float)
+module _ (signs : ControlSigns) (limits : ReachedLimits) (set_limits : Bool) (jf v_max v_min a_max a_min : Float)
     (n₀ : Numbers) (l : Labels) {calls : ℕ} (ec : calls ≡ counted_of l.calls) where
   abbrev asked : Checked
-  asked = check_of signs limits set-limits jf v-max v-min a_max_lem a_min_lem (profile_of n₀ l)
+  asked = check_of signs limits set_limits jf v_max v_min a_max a_min (profile_of n₀ l)
 
   module _ {n₁ : Numbers} {b : Bool} (e : record { ok = b; left = n₁ } ≡ summed_of n₀) where
     abbrev sums : Step (List Float)
@@ -87,17 +87,18 @@ module _ (signs : ControlSigns) (limits : ReachedLimits) (set-limits : Bool) (jf
           rw (ec, n₁_is, ← em, ← b_is, h, both_pass early _, early_is, r)
           (rw (earlier early _ (early_is ∙ r), cause_is))
 
-      module _ (r : is_yes cause ≡ true) {t j : List Float} (et : t ≡ n₁.t) (ej : j ≡ jerks_of signs t jf) {n₂ : Numbers}
-          (e₂ : n₂ ≡ with_jerks j n₁) {way : Direction} (ew : way ≡ direction_of v-max) {v_band_lem : Band}
-          (eb : v_band_lem ≡ band_of v-max v-max v-min) {n₃ : Numbers} {o : Bool}
-          (e₃ : record { ok = o; left = n₃ } ≡ moved_of made set-limits a_max_lem a_min_lem v_band_lem n₂) where
+      module _ (r : is_yes cause ≡ true) {t j : List Float} (et : t ≡ n₁.t)
+          (ej : j ≡ jerks_of signs t jf) {n₂ : Numbers}
+          (e₂ : n₂ ≡ with_jerks j n₁) {way : Direction} (ew : way ≡ direction_of v_max) {v_band : Band}
+          (eb : v_band ≡ band_of v_max v_max v_min) {n₃ : Numbers} {o : Bool}
+          (e₃ : record { ok = o; left = n₃ } ≡ moved_of made set_limits a_max a_min v_band n₂) where
         abbrev nodes : Step Nodes
-        nodes = run (phase_of made set-limits a_max_lem a_min_lem v_band_lem n₀.t (jerks_of signs n₀.t jf)) 7 0 n₀.nodes
+        nodes = run (phase_of made set_limits a_max a_min v_band n₀.t (jerks_of signs n₀.t jf)) 7 0 n₀.nodes
 
         abbrev jerked : Numbers
         jerked = with_jerks (jerks_of signs n₀.t jf) (with_sums sums.left n₀)
 
-        after : record { ok = o; left = n₃ } ≡ moved_of made set-limits a_max_lem a_min_lem v_band_lem jerked
+        after : record { ok = o; left = n₃ } ≡ moved_of made set_limits a_max a_min v_band jerked
         after = rw (e₂, ej, et, n₁_is) at e₃
 
         o_is : o ≡ nodes.ok
@@ -120,13 +121,13 @@ module _ (signs : ControlSigns) (limits : ReachedLimits) (set-limits : Bool) (jf
             rw (ec, n₃_is, ← em, ← b_is, h, both_pass early _, passed, later early _ passed)
             (rw (← eb, ← ew, ← o_is, k))
 
-        pub ended : {a_band_lem : Band} → a_band_lem ≡ band_of v-max a_max_lem a_min_lem → o ≡ true → {last : Cause}
-            → last ≡ cause_of (end_tests n₃.nodes n₃.goal a_band_lem v_band_lem) → {ok : Bool} → ok ≡ is_yes last
+        pub ended : {a_band : Band} → a_band ≡ band_of v_max a_max a_min → o ≡ true → {last : Cause}
+            → last ≡ cause_of (end_tests n₃.nodes n₃.goal a_band v_band) → {ok : Bool} → ok ≡ is_yes last
             → record { ok = ok; profile = profile_of n₃ (labels limits way signs calls last) } ≡ asked
         unfolding check_of
-        ended {a_band_lem} ea k el eo =
+        ended {a_band} ea k el eo =
             rw (eo, el, ec, n₃_is, ← em, ← b_is, h, both_pass early _, passed, later early _ passed)
-            (rw (← eb, ← ew, ← ea, ← o_is, k, end_none nodes.left n₀.goal a_band_lem v_band_lem))
+            (rw (← eb, ← ew, ← ea, ← o_is, k, end_none nodes.left n₀.goal a_band v_band))
 
 -- a profile taken apart and worked on in its row
 pub put_together : (f : Profile → Checked) (q : Profile) {n : Numbers} {l : Labels} → n ≡ numbers_of q → l ≡ labels_of q

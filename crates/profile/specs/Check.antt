@@ -24,26 +24,26 @@ abbrev pub time_tests : Tests → List Float → Step (List Float) → List Test
 time_tests m t sums = test NegativeTime sums.ok ∷ label_tests m t sums.left
 
 abbrev pub check_tests : Tests → List Float → Step (List Float) → Step Nodes → Goal → Band → Band → List Test
-check_tests m t sums nodes goal a_band_lem v_band_lem =
-    time_tests m t sums ++ (test VelocityAtZero nodes.ok ∷ end_tests nodes.left goal a_band_lem v_band_lem)
+check_tests m t sums nodes goal a_band v_band =
+    time_tests m t sums ++ (test VelocityAtZero nodes.ok ∷ end_tests nodes.left goal a_band v_band)
 
 -- The verdict is yes where none fails. The ways out, in the Rust's order: a time below 0, or a test of the label or of
 -- the total, leaves the sums so far; a velocity at zero acceleration outside its limits leaves the jerks, the direction
 -- and the phases so far; and the end leaves all, with the labels. Each leaves one call more, and the cause.
 unfoldable pub check_of :
     ControlSigns → ReachedLimits → Bool → Float → Float → Float → Float → Float → Profile → Checked
-check_of signs limits set-limits jf v-max v-min a_max_lem a_min_lem q =
+check_of signs limits set_limits jf v_max v_min a_max a_min q =
     let n = numbers_of q in
     let sums = sums_of n.t n.t_sum in
     let made = tests_of limits in
     let j = jerks_of signs n.t jf in
-    let way = direction_of v-max in
-    let v_band_lem = band_of v-max v-max v-min in
-    let a_band_lem = band_of v-max a_max_lem a_min_lem in
-    let nodes = run (phase_of made set-limits a_max_lem a_min_lem v_band_lem n.t j) 7 0 n.nodes in
+    let way = direction_of v_max in
+    let v_band = band_of v_max v_max v_min in
+    let a_band = band_of v_max a_max a_min in
+    let nodes = run (phase_of made set_limits a_max a_min v_band n.t j) 7 0 n.nodes in
     let summed = with_sums sums.left n in
     let moved = with_nodes nodes.left (with_jerks j summed) in
-    let tests = check_tests made n.t sums nodes n.goal a_band_lem v_band_lem in
+    let tests = check_tests made n.t sums nodes n.goal a_band v_band in
     let calls = counted_of q.calls in
     let cause = cause_of tests in
     record {

@@ -24,13 +24,13 @@ marked_by marked c =
 -- `check` without set_limits
 unfoldable pub timing_of :
     ControlSigns → ReachedLimits → Float → Float → Float → Float → Float → Bool → Profile → Checked
-timing_of signs limits jf v-max v-min a_max_lem a_min_lem marked q =
-    marked_by marked (check_of signs limits false jf v-max v-min a_max_lem a_min_lem q)
+timing_of signs limits jf v_max v_min a_max a_min marked q =
+    marked_by marked (check_of signs limits false jf v_max v_min a_max a_min q)
 
 -- The same where |jf| < |j_max| + J_EPS. Else no, and the record as it came, its count too: only a mark gives a cause.
 unfoldable pub timing_full_of :
     ControlSigns → ReachedLimits → Float → Float → Float → Float → Float → Float → Bool → Profile → Checked
-timing_full_of signs limits jf v-max v-min a_max_lem a_min_lem j_max_lem marked q =
+timing_full_of signs limits jf v_max v_min a_max a_min j_max marked q =
     marked_by marked
-    (cond (lt (abs_of jf) (abs_of j_max_lem ⊕ #1e-12)) (check_of signs limits false jf v-max v-min a_max_lem a_min_lem q)
+    (cond (lt (abs_of jf) (abs_of j_max ⊕ #1e-12)) (check_of signs limits false jf v_max v_min a_max a_min q)
     (record { ok = false; profile = q }))

@@ -122,9 +122,9 @@ module _ (signs : ControlSigns) (limits : ReachedLimits) (jf v_max v_min a_max a
         let a_low = either b a_min a_max n_a_min n_a_max in
         let a_upp = either b a_max a_min n_a_max n_a_min in
         record {
-          position = at_p z q'.pf g.held-pf (end_p y);
-          velocity = at_v z q'.vf g.held-vf (end_v y);
-          acceleration = at_a z q'.af g.held-af (end_a y);
+          position = at_p z q'.pf g.held_pf (end_p y);
+          velocity = at_v z q'.vf g.held_vf (end_v y);
+          acceleration = at_a z q'.af g.held_af (end_a y);
           velocity_2 = v_between z 3 (lit≤ tt) (lower v_max v_max v_min) (upper v_max v_max v_min) v_low v_upp k.v3;
           velocity_3 = v_between z 4 (lit≤ tt) (lower v_max v_max v_min) (upper v_max v_max v_min) v_low v_upp k.v4;
           velocity_4 = v_between z 5 (lit≤ tt) (lower v_max v_max v_min) (upper v_max v_max v_min) v_low v_upp k.v5;

@@ -53,9 +53,9 @@ held =
       held_a = none;
       held_v = none;
       held_p = none;
-      held-pf = of_bits-fits binary64 0x4020_0000_0000_0000;
-      held-vf = none;
-      held-af = none;
+      held_pf = of_bits-fits binary64 0x4020_0000_0000_0000;
+      held_vf = none;
+      held_af = none;
     }
 
 -- all of it computes

@@ -165,7 +165,7 @@ held-left {q} {q'} c h =
       held_a = w.0;
       held_v = w.1;
       held_p = w.2;
-      held-pf = subst (λ (z : Float). T (fits binary64 z)) (sym c.pf_is) h.held-pf;
-      held-vf = subst (λ (z : Float). T (fits binary64 z)) (sym c.vf_is) h.held-vf;
-      held-af = subst (λ (z : Float). T (fits binary64 z)) (sym c.af_is) h.held-af;
+      held_pf = subst (λ (z : Float). T (fits binary64 z)) (sym c.pf_is) h.held_pf;
+      held_vf = subst (λ (z : Float). T (fits binary64 z)) (sym c.vf_is) h.held_vf;
+      held_af = subst (λ (z : Float). T (fits binary64 z)) (sym c.af_is) h.held_af;
     }

@@ -48,9 +48,9 @@ pub record Held (q : Profile) : Type 0 where
   pub held_a : T (fits binary64 (node q 0).a)
   pub held_v : T (fits binary64 (node q 0).v)
   pub held_p : T (fits binary64 (node q 0).p)
-  pub held-pf : T (fits binary64 q.pf)
-  pub held-vf : T (fits binary64 q.vf)
-  pub held-af : T (fits binary64 q.af)
+  pub held_pf : T (fits binary64 q.pf)
+  pub held_vf : T (fits binary64 q.vf)
+  pub held_af : T (fits binary64 q.af)
 
 -- Starting position, velocity and acceleration of at most 8 in size, exact total time at most 8, recorded jerks at most
 -- 64 in size.

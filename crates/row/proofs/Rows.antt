@@ -7,7 +7,8 @@ use native.Mathlib.Nat.{add-zero, add-suc}
 use native.Mathlib.Numerals.{add-one}
 use native.Mathlib.Omega.{arith}
 use lib.ListN.{length, get_or, take, drop, set, length-drop, drop_of_length-le}
-use lib.Seq.{sets, sets-eq, get_or-take, get_or-drop, get_or-set_other, take-set-lt, take-set-le, drop-set-add, drop-set-lt}
+use lib.Seq.{sets, sets-eq, get_or-take, get_or-drop, get_or-set_other, take-set-lt, take-set-le, drop-set-add}
+use lib.Seq.{drop-set-lt}
 use lib.Seq.{length-take-le, drop-cons, length-sets}
 use lib.Ieee.{Float, nan}
 use Rattle.row.specs.Row.{Numbers, part, goal_in, numbers_in, with_times, with_sums, with_jerks, with_nodes}

@@ -36,9 +36,9 @@ fresh-starts {m} n =
             held_a = n.of_a0.held;
             held_v = n.of_v0.held;
             held_p = n.of_p0.held;
-            held-pf = n.of_pf.held;
-            held-vf = n.of_vf.held;
-            held-af = n.of_af.held;
+            held_pf = n.of_pf.held;
+            held_vf = n.of_vf.held;
+            held_af = n.of_af.held;
           };
     }
 

@@ -84,9 +84,9 @@ module _ {m : Move} where
               held_a = h.held_a;
               held_v = h.held_v;
               held_p = h.held_p;
-              held-pf = h.held-pf;
-              held-vf = h.held-vf;
-              held-af = h.held-af;
+              held_pf = h.held_pf;
+              held_vf = h.held_vf;
+              held_af = h.held_af;
             };
         start = s.start;
         pf_is = s.pf_is;

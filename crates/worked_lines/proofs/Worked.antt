@@ -14,7 +14,8 @@ use Rattle.sqrt.specs.Sqrt.{square_root_of, sqrt_of}
 use Rattle.labels.specs.Tests.{tests_of}
 use Rattle.jerks.specs.Jerks.{jerks_of}
 use Rattle.positive_set.specs.Set.{holds, insert_of, insert_all_of, into_of, sorted_of}
-use Rattle.roots.specs.Quartic.{need_of, factors_of, quadratic_of, without_cd_of, with_cbrt_of, resolved_of, offered_of, roots_of}
+use Rattle.roots.specs.Quartic.{need_of, factors_of, quadratic_of, without_cd_of, with_cbrt_of, resolved_of, offered_of}
+use Rattle.roots.specs.Quartic.{roots_of}
 use Rattle.phases.specs.Run.{run}
 use Rattle.phases.specs.Times.{step_of_sums, sums_of, label_tests}
 use Rattle.limits.specs.Limits.{band_of, accelerations_kept_of, velocities_kept_of, end_tests}
@@ -25,26 +26,41 @@ use Rattle.profile.specs.Boundary.{boundary_of}
 use Rattle.rounding.specs.Value.{unit, mag, sign, val}
 use Rattle.rounding.specs.Motion.{lasts}
 use Rattle.step2_solver.specs.New.{new_of}
-use Rattle.time_acc0_acc1_vel.specs.TimeAcc0Acc1Vel.{acc0_acc1_vel_uddu_applies, acc0_acc1_vel_uddu_radicand, acc0_acc1_vel_uddu_h1}
-use Rattle.time_acc0_acc1_vel.specs.TimeAcc0Acc1Vel.{acc0_acc1_vel_uddu_t1, acc0_acc1_vel_uddu_times, acc0_acc1_vel_uddu}
-use Rattle.time_acc0_acc1_vel.specs.TimeAcc0Acc1Vel.{acc0_acc1_vel_udud_applies, acc0_acc1_vel_udud_t1, acc0_acc1_vel_udud_t3}
+use Rattle.time_acc0_acc1_vel.specs.TimeAcc0Acc1Vel.{acc0_acc1_vel_uddu_applies, acc0_acc1_vel_uddu_radicand}
+use Rattle.time_acc0_acc1_vel.specs.TimeAcc0Acc1Vel.{acc0_acc1_vel_uddu_h1}
+use Rattle.time_acc0_acc1_vel.specs.TimeAcc0Acc1Vel.{acc0_acc1_vel_uddu_t1, acc0_acc1_vel_uddu_times}
+use Rattle.time_acc0_acc1_vel.specs.TimeAcc0Acc1Vel.{acc0_acc1_vel_uddu}
+use Rattle.time_acc0_acc1_vel.specs.TimeAcc0Acc1Vel.{acc0_acc1_vel_udud_applies, acc0_acc1_vel_udud_t1}
+use Rattle.time_acc0_acc1_vel.specs.TimeAcc0Acc1Vel.{acc0_acc1_vel_udud_t3}
 use Rattle.time_acc0_acc1_vel.specs.TimeAcc0Acc1Vel.{acc0_acc1_vel_udud_times, acc0_acc1_vel_udud}
-use Rattle.time_acc1_vel.specs.TimeAcc1Vel.{acc1_vel_t_min, acc1_vel_uddu_polynom, acc1_vel_uddu_t_max, acc1_vel_uddu_orig}
-use Rattle.time_acc1_vel.specs.TimeAcc1Vel.{acc1_vel_uddu_deriv, acc1_vel_uddu_newton, acc1_vel_uddu_h1, acc1_vel_uddu_times}
-use Rattle.time_acc1_vel.specs.TimeAcc1Vel.{acc1_vel_uddu_window, acc1_vel_uddu, acc1_vel_udud_polynom, acc1_vel_udud_t_max}
+use Rattle.time_acc1_vel.specs.TimeAcc1Vel.{acc1_vel_t_min, acc1_vel_uddu_polynom, acc1_vel_uddu_t_max}
+use Rattle.time_acc1_vel.specs.TimeAcc1Vel.{acc1_vel_uddu_orig}
+use Rattle.time_acc1_vel.specs.TimeAcc1Vel.{acc1_vel_uddu_deriv, acc1_vel_uddu_newton, acc1_vel_uddu_h1}
+use Rattle.time_acc1_vel.specs.TimeAcc1Vel.{acc1_vel_uddu_times}
+use Rattle.time_acc1_vel.specs.TimeAcc1Vel.{acc1_vel_uddu_window, acc1_vel_uddu, acc1_vel_udud_polynom}
+use Rattle.time_acc1_vel.specs.TimeAcc1Vel.{acc1_vel_udud_t_max}
 use Rattle.time_acc1_vel.specs.TimeAcc1Vel.{acc1_vel_udud_h1, acc1_vel_udud_times, acc1_vel_udud_window, acc1_vel_udud}
-use Rattle.time_acc0_vel.specs.TimeAcc0Vel.{acc0_vel_too_short, acc0_vel_ph1, acc0_vel_uddu_polynom, acc0_vel_uddu_t_min}
-use Rattle.time_acc0_vel.specs.TimeAcc0Vel.{acc0_vel_uddu_t_max, acc0_vel_uddu_orig, acc0_vel_uddu_deriv, acc0_vel_uddu_newton}
+use Rattle.time_acc0_vel.specs.TimeAcc0Vel.{acc0_vel_too_short, acc0_vel_ph1, acc0_vel_uddu_polynom}
+use Rattle.time_acc0_vel.specs.TimeAcc0Vel.{acc0_vel_uddu_t_min}
+use Rattle.time_acc0_vel.specs.TimeAcc0Vel.{acc0_vel_uddu_t_max, acc0_vel_uddu_orig, acc0_vel_uddu_deriv}
+use Rattle.time_acc0_vel.specs.TimeAcc0Vel.{acc0_vel_uddu_newton}
 use Rattle.time_acc0_vel.specs.TimeAcc0Vel.{acc0_vel_uddu_h1, acc0_vel_uddu_times, acc0_vel_uddu_window, acc0_vel_uddu}
-use Rattle.time_acc0_vel.specs.TimeAcc0Vel.{acc0_vel_udud_polynom, acc0_vel_udud_t_min, acc0_vel_udud_t_max, acc0_vel_udud_orig}
-use Rattle.time_acc0_vel.specs.TimeAcc0Vel.{acc0_vel_udud_deriv, acc0_vel_udud_newton, acc0_vel_udud_h1, acc0_vel_udud_times}
+use Rattle.time_acc0_vel.specs.TimeAcc0Vel.{acc0_vel_udud_polynom, acc0_vel_udud_t_min, acc0_vel_udud_t_max}
+use Rattle.time_acc0_vel.specs.TimeAcc0Vel.{acc0_vel_udud_orig}
+use Rattle.time_acc0_vel.specs.TimeAcc0Vel.{acc0_vel_udud_deriv, acc0_vel_udud_newton, acc0_vel_udud_h1}
+use Rattle.time_acc0_vel.specs.TimeAcc0Vel.{acc0_vel_udud_times}
 use Rattle.time_acc0_vel.specs.TimeAcc0Vel.{acc0_vel_udud_window, acc0_vel_udud}
-use Rattle.time_acc0_acc1.specs.TimeAcc0Acc1.{acc0_acc1_rest_applies, acc0_acc1_rest_h1, acc0_acc1_rest_h2, acc0_acc1_rest_jf}
-use Rattle.time_acc0_acc1.specs.TimeAcc0Acc1.{acc0_acc1_rest_t1, acc0_acc1_rest_times, acc0_acc1_rest, acc0_acc1_uddu_radicand}
-use Rattle.time_acc0_acc1.specs.TimeAcc0Acc1.{acc0_acc1_uddu_jf, acc0_acc1_uddu_t1, acc0_acc1_uddu_times, acc0_acc1_uddu}
+use Rattle.time_acc0_acc1.specs.TimeAcc0Acc1.{acc0_acc1_rest_applies, acc0_acc1_rest_h1, acc0_acc1_rest_h2}
+use Rattle.time_acc0_acc1.specs.TimeAcc0Acc1.{acc0_acc1_rest_jf}
+use Rattle.time_acc0_acc1.specs.TimeAcc0Acc1.{acc0_acc1_rest_t1, acc0_acc1_rest_times, acc0_acc1_rest}
+use Rattle.time_acc0_acc1.specs.TimeAcc0Acc1.{acc0_acc1_uddu_radicand}
+use Rattle.time_acc0_acc1.specs.TimeAcc0Acc1.{acc0_acc1_uddu_jf, acc0_acc1_uddu_t1, acc0_acc1_uddu_times}
+use Rattle.time_acc0_acc1.specs.TimeAcc0Acc1.{acc0_acc1_uddu}
 use Rattle.time_acc0_acc1.specs.RestToRest.{rest_to_rest_t1, rest_to_rest_trial}
-use Rattle.time_acc0.specs.TimeAcc0.{acc0_first_radicand, acc0_first_times, acc0_first, acc0_second_h0a, acc0_second_h0b}
-use Rattle.time_acc0.specs.TimeAcc0.{acc0_second_radicand, acc0_second_h0, acc0_second_h1, acc0_second_t1, acc0_second_times}
+use Rattle.time_acc0.specs.TimeAcc0.{acc0_first_radicand, acc0_first_times, acc0_first, acc0_second_h0a}
+use Rattle.time_acc0.specs.TimeAcc0.{acc0_second_h0b}
+use Rattle.time_acc0.specs.TimeAcc0.{acc0_second_radicand, acc0_second_h0, acc0_second_h1, acc0_second_t1}
+use Rattle.time_acc0.specs.TimeAcc0.{acc0_second_times}
 use Rattle.time_acc0.specs.TimeAcc0.{acc0_second, acc0_third_h0a, acc0_third_h0b, acc0_third_radicand, acc0_third_h1}
 use Rattle.time_acc0.specs.TimeAcc0.{acc0_third_h2, acc0_third_times, acc0_third}
 use Rattle.step2_quartics.specs.Quartics.{acc1_vel_quartics_of, acc0_vel_quartics_of}
@@ -124,22 +140,38 @@ owns =
 -- in one list, so that they are computed by one proof
 all_own : T (all owns)
 unfolding is_nan of_bits to_bits lt le eq neg add sub mul div abs_of integrate_of square_root_of sqrt_of holds insert_of
-    insert_all_of into_of sorted_of need_of factors_of quadratic_of without_cd_of with_cbrt_of resolved_of offered_of roots_of
-    tests_of jerks_of run step_of_sums sums_of label_tests band_of replaced_of zero_inside_of node_of phase_of accelerations_kept_of
-    velocities_kept_of end_tests check_of timing_of boundary_of new_of acc0_acc1_vel_uddu_applies acc0_acc1_vel_uddu_radicand
-    acc0_acc1_vel_uddu_h1 acc0_acc1_vel_uddu_t1 acc0_acc1_vel_uddu_times acc0_acc1_vel_uddu acc0_acc1_vel_udud_applies acc0_acc1_vel_udud_t1
-    acc0_acc1_vel_udud_t3 acc0_acc1_vel_udud_times acc0_acc1_vel_udud acc1_vel_t_min acc1_vel_uddu_polynom acc1_vel_uddu_t_max
-    acc1_vel_uddu_orig acc1_vel_uddu_deriv acc1_vel_uddu_newton acc1_vel_uddu_h1 acc1_vel_uddu_times acc1_vel_uddu_window acc1_vel_uddu
-    acc1_vel_udud_polynom acc1_vel_udud_t_max acc1_vel_udud_h1 acc1_vel_udud_times acc1_vel_udud_window acc1_vel_udud acc0_vel_too_short
-    acc0_vel_ph1 acc0_vel_uddu_polynom acc0_vel_uddu_t_min acc0_vel_uddu_t_max acc0_vel_uddu_orig acc0_vel_uddu_deriv acc0_vel_uddu_newton
-    acc0_vel_uddu_h1 acc0_vel_uddu_times acc0_vel_uddu_window acc0_vel_uddu acc0_vel_udud_polynom acc0_vel_udud_t_min acc0_vel_udud_t_max
-    acc0_vel_udud_orig acc0_vel_udud_deriv acc0_vel_udud_newton acc0_vel_udud_h1 acc0_vel_udud_times acc0_vel_udud_window acc0_vel_udud
-    acc0_acc1_rest_applies acc0_acc1_rest_h1 acc0_acc1_rest_h2 acc0_acc1_rest_jf acc0_acc1_rest_t1 acc0_acc1_rest_times acc0_acc1_rest
-    acc0_acc1_uddu_radicand acc0_acc1_uddu_jf acc0_acc1_uddu_t1 acc0_acc1_uddu_times acc0_acc1_uddu acc0_first_radicand acc0_first_times
-    acc0_first acc0_second_h0a acc0_second_h0b acc0_second_radicand acc0_second_h0 acc0_second_h1 acc0_second_t1 acc0_second_times
-    acc0_second acc0_third_h0a acc0_third_h0b acc0_third_radicand acc0_third_h1 acc0_third_h2 acc0_third_times acc0_third
-    rest_to_rest_t1 rest_to_rest_trial acc1_vel_quartics_of acc0_vel_quartics_of attempt_of try_of tried_of row_of word_at move_of
-    root_answer_of head_of rows_of reply_bytes_of both_suit_of counts_fit_of counts_suit_of questions_of shape_line_of reply_of replied_of
+    insert_all_of into_of sorted_of need_of factors_of quadratic_of without_cd_of with_cbrt_of resolved_of offered_of
+    roots_of
+    tests_of jerks_of run step_of_sums sums_of label_tests band_of replaced_of zero_inside_of node_of phase_of
+    accelerations_kept_of
+    velocities_kept_of end_tests check_of timing_of boundary_of new_of acc0_acc1_vel_uddu_applies
+    acc0_acc1_vel_uddu_radicand
+    acc0_acc1_vel_uddu_h1 acc0_acc1_vel_uddu_t1 acc0_acc1_vel_uddu_times acc0_acc1_vel_uddu acc0_acc1_vel_udud_applies
+    acc0_acc1_vel_udud_t1
+    acc0_acc1_vel_udud_t3 acc0_acc1_vel_udud_times acc0_acc1_vel_udud acc1_vel_t_min acc1_vel_uddu_polynom
+    acc1_vel_uddu_t_max
+    acc1_vel_uddu_orig acc1_vel_uddu_deriv acc1_vel_uddu_newton acc1_vel_uddu_h1 acc1_vel_uddu_times
+    acc1_vel_uddu_window acc1_vel_uddu
+    acc1_vel_udud_polynom acc1_vel_udud_t_max acc1_vel_udud_h1 acc1_vel_udud_times acc1_vel_udud_window acc1_vel_udud
+    acc0_vel_too_short
+    acc0_vel_ph1 acc0_vel_uddu_polynom acc0_vel_uddu_t_min acc0_vel_uddu_t_max acc0_vel_uddu_orig acc0_vel_uddu_deriv
+    acc0_vel_uddu_newton
+    acc0_vel_uddu_h1 acc0_vel_uddu_times acc0_vel_uddu_window acc0_vel_uddu acc0_vel_udud_polynom acc0_vel_udud_t_min
+    acc0_vel_udud_t_max
+    acc0_vel_udud_orig acc0_vel_udud_deriv acc0_vel_udud_newton acc0_vel_udud_h1 acc0_vel_udud_times
+    acc0_vel_udud_window acc0_vel_udud
+    acc0_acc1_rest_applies acc0_acc1_rest_h1 acc0_acc1_rest_h2 acc0_acc1_rest_jf acc0_acc1_rest_t1 acc0_acc1_rest_times
+    acc0_acc1_rest
+    acc0_acc1_uddu_radicand acc0_acc1_uddu_jf acc0_acc1_uddu_t1 acc0_acc1_uddu_times acc0_acc1_uddu acc0_first_radicand
+    acc0_first_times
+    acc0_first acc0_second_h0a acc0_second_h0b acc0_second_radicand acc0_second_h0 acc0_second_h1 acc0_second_t1
+    acc0_second_times
+    acc0_second acc0_third_h0a acc0_third_h0b acc0_third_radicand acc0_third_h1 acc0_third_h2 acc0_third_times
+    acc0_third
+    rest_to_rest_t1 rest_to_rest_trial acc1_vel_quartics_of acc0_vel_quartics_of attempt_of try_of tried_of row_of
+    word_at move_of
+    root_answer_of head_of rows_of reply_bytes_of both_suit_of counts_fit_of counts_suit_of questions_of shape_line_of
+    reply_of replied_of
     answer_of unit mag sign val lasts
 all_own = tt
 

@@ -6,7 +6,8 @@ use Rattle.labels.specs.Labels.{label_of}
 use Rattle.labels.proofs.label.Goals as goal
 
 other : (n : ℕ)
-    → (n ≡ 0 → ⊥) → (n ≡ 1 → ⊥) → (n ≡ 2 → ⊥) → (n ≡ 3 → ⊥) → (n ≡ 4 → ⊥) → (n ≡ 5 → ⊥) → (n ≡ 6 → ⊥) → None ≡ label_of n
+    → (n ≡ 0 → ⊥) → (n ≡ 1 → ⊥) → (n ≡ 2 → ⊥) → (n ≡ 3 → ⊥) → (n ≡ 4 → ⊥) → (n ≡ 5 → ⊥) → (n ≡ 6 → ⊥)
+    → None ≡ label_of n
 other zero a b c d e f g = absurd (a refl)
 other (suc zero) a b c d e f g = absurd (b refl)
 other (suc (suc zero)) a b c d e f g = absurd (c refl)
@@ -48,4 +49,5 @@ returns-then-n-eq6 c =
 pub returns : goal.returns
 returns c =
     other c.args.n
-    c.if-n-eq0.false c.if-n-eq1.false c.if-n-eq2.false c.if-n-eq3.false c.if-n-eq4.false c.if-n-eq5.false c.if-n-eq6.false
+    c.if-n-eq0.false c.if-n-eq1.false c.if-n-eq2.false c.if-n-eq3.false c.if-n-eq4.false c.if-n-eq5.false
+    c.if-n-eq6.false

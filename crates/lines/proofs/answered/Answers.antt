@@ -15,24 +15,29 @@ returns-then-not-length_fits c =
 
 pub returns-then-not-decode : goal.returns-then-not-decode
 returns-then-not-decode c =
-    second c.args.request.now c.args.reply.now (sym c.length_fits.ensures ∙ c.if-not-length_fits.false) c.decode.ensures c.if-not-decode.true
+    second c.args.request.now c.args.reply.now
+    (sym c.length_fits.ensures ∙ c.if-not-length_fits.false) c.decode.ensures c.if-not-decode.true
 
 pub returns-then-row-eq0 : goal.returns-then-row-eq0
 returns-then-row-eq0 c =
-    third c.args.request.now c.args.reply.now (sym c.length_fits.ensures ∙ c.if-not-length_fits.false) c.decode.ensures c.if-not-decode.false
+    third c.args.request.now c.args.reply.now
+    (sym c.length_fits.ensures ∙ c.if-not-length_fits.false) c.decode.ensures c.if-not-decode.false
     c.row_of-row.ensures c.if-row-eq0.true
 
 pub returns-then-n-row : goal.returns-then-n-row
 returns-then-n-row c =
-    fourth c.args.request.now c.args.reply.now (sym c.length_fits.ensures ∙ c.if-not-length_fits.false) c.decode.ensures c.if-not-decode.false
+    fourth c.args.request.now c.args.reply.now
+    (sym c.length_fits.ensures ∙ c.if-not-length_fits.false) c.decode.ensures c.if-not-decode.false
     c.row_of-row.ensures c.if-row-eq0.false c.if-n-row.true
 
 pub returns-then-number-ne0 : goal.returns-then-number-ne0
 returns-then-number-ne0 c =
-    later c.args.request.now c.args.reply.now (sym c.length_fits.ensures ∙ c.if-not-length_fits.false) c.decode.ensures c.if-not-decode.false
+    later c.args.request.now c.args.reply.now
+    (sym c.length_fits.ensures ∙ c.if-not-length_fits.false) c.decode.ensures c.if-not-decode.false
     c.row_of-row.ensures c.if-row-eq0.false c.if-n-row.false c.reply_to-number.ensures c.if-number-ne0.true
 
 pub returns : goal.returns
 returns c =
-    all c.args.request.now c.args.reply.now (sym c.length_fits.ensures ∙ c.if-not-length_fits.false) c.decode.ensures c.if-not-decode.false
+    all c.args.request.now c.args.reply.now
+    (sym c.length_fits.ensures ∙ c.if-not-length_fits.false) c.decode.ensures c.if-not-decode.false
     c.row_of-row.ensures c.if-row-eq0.false c.if-n-row.false c.reply_to-number.ensures c.if-number-ne0.false

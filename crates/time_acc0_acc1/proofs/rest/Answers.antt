@@ -4,7 +4,8 @@ use mathlib.Core.Bool.{Bool, true, false, cond}
 use lib.Ieee.{Float}
 use Rattle.step2_solver.specs.declared.PositionThirdOrderStep2.{PositionThirdOrderStep2}
 use Rattle.step2_solver.specs.declared.Limits.{Limits}
-use Rattle.time_acc0_acc1.specs.TimeAcc0Acc1.{acc0_acc1_rest_jf, acc0_acc1_rest_t1, acc0_acc1_rest_trial, acc0_acc1_rest}
+use Rattle.time_acc0_acc1.specs.TimeAcc0Acc1.{acc0_acc1_rest_jf, acc0_acc1_rest_t1, acc0_acc1_rest_trial}
+use Rattle.time_acc0_acc1.specs.TimeAcc0Acc1.{acc0_acc1_rest}
 use Rattle.time_acc0_acc1.specs.RestToRest.{rest_to_rest_t1, rest_to_rest_trial}
 use Rattle.time_acc0_acc1.proofs.rest.Goals as goal
 
@@ -12,7 +13,8 @@ chosen : (b : Bool) (s : PositionThirdOrderStep2) (l : Limits) (h1 h2 : Float)
     → let jf = acc0_acc1_rest_jf h1 h2 in
     let new = rest_to_rest_t1 s l.a_max l.a_min jf in
     let old = acc0_acc1_rest_t1 s l.a_max l.a_min h1 h2 in
-    acc0_acc1_rest_trial s l jf (cond b new old) ≡ cond b (acc0_acc1_rest_trial s l jf new) (acc0_acc1_rest_trial s l jf old)
+    acc0_acc1_rest_trial s l jf (cond b new old) ≡ cond b (acc0_acc1_rest_trial s l jf new)
+    (acc0_acc1_rest_trial s l jf old)
 chosen true s l h1 h2 = refl
 chosen false s l h1 h2 = refl
 

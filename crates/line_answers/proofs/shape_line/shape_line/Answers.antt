@@ -59,7 +59,7 @@ returns-then-not-counts_suit c =
     let fits = sym c.answers_fit.ensures ∙ c.if-not-answers_fit.false in
     let read = move_read at c.move_numbers-m.result c.move_numbers-m.ensures (not-false _ c.if-not-m.false) in
     let worked =
-        quartics_are c.args.shape at read.1 c.solver-s.ensures c.limits-l.ensures c.quartics_of-q.ensures in
+    quartics_are c.args.shape at read.1 c.solver-s.ensures c.limits-l.ensures c.quartics_of-q.ensures in
     seventh c.args.causes c.args.shape at c.args.reply.now read.0 _ c.if-quartics.false fits
     (rw (← worked) (sym c.counts_suit.ensures ∙ c.if-not-counts_suit.true))
 
@@ -69,7 +69,7 @@ returns-then-reply-places_of c =
     let fits = sym c.answers_fit.ensures ∙ c.if-not-answers_fit.false in
     let read = move_read at c.move_numbers-m.result c.move_numbers-m.ensures (not-false _ c.if-not-m.false) in
     let worked =
-        quartics_are c.args.shape at read.1 c.solver-s.ensures c.limits-l.ensures c.quartics_of-q.ensures in
+    quartics_are c.args.shape at read.1 c.solver-s.ensures c.limits-l.ensures c.quartics_of-q.ensures in
     eighth c.args.causes c.args.shape at c.args.reply.now read.0 _ c.if-quartics.false fits
     (rw (← worked) (sym c.counts_suit.ensures ∙ c.if-not-counts_suit.false))
     (rw (← c.places_of.ensures) c.if-reply-places_of.true)
@@ -81,7 +81,7 @@ returns c =
     let lent : List ℕ = c.args.reply.now in
     let read = move_read at c.move_numbers-m.result c.move_numbers-m.ensures (not-false _ c.if-not-m.false) in
     let worked =
-        quartics_are c.args.shape at read.1 c.solver-s.ensures c.limits-l.ensures c.quartics_of-q.ensures in
+    quartics_are c.args.shape at read.1 c.solver-s.ensures c.limits-l.ensures c.quartics_of-q.ensures in
     let enough : shape_places c.args.causes ≤ length lent = rw (← c.places_of.ensures) c.if-reply-places_of.false in
     all c.args.causes c.args.shape at lent read.0 _ c.if-quartics.false fits
     (rw (← worked) (sym c.counts_suit.ensures ∙ c.if-not-counts_suit.false))

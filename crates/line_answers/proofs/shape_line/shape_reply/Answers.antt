@@ -13,5 +13,6 @@ returns c =
     let lent = c.args.reply.now in
     c.write_answer.ensures
     ∙ ap (λ (y : Checked). shape_written c.args.causes y lent)
-    (shaped c.start_labels.ensures (shape_of c.args.shape c.args.s c.args.l c.args.q c.args.first c.args.second) c.args.x
+    (shaped c.start_labels.ensures
+    (shape_of c.args.shape c.args.s c.args.l c.args.q c.args.first c.args.second) c.args.x
     c.start-row.ensures c.ask-answer.ensures)

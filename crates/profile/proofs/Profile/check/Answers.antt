@@ -9,5 +9,6 @@ unfolding profile_in
 returns c =
     rw c.from_row.ensures
     (put_together
-    (check_of c.args.control_signs c.args.limits c.args.set_limits c.args.jf c.args.v_max c.args.v_min c.args.a_max c.args.a_min)
+    (check_of c.args.control_signs c.args.limits c.args.set_limits c.args.jf c.args.v_max c.args.v_min c.args.a_max
+    c.args.a_min)
     c.args.self c.row-x.ensures c.labels.ensures c.check-answer.ensures)
