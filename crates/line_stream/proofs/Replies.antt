@@ -5,7 +5,7 @@ use mathlib.Core.List.{List}
 use Prim.Native.Nat.{ℕ}
 use lib.ListN.{length}
 use borrow.Author.Tests.{ne_eqb}
-use Rattle.hex_bytes.specs.Hex.{bytes_of, fill}
+use Rattle.hex_bytes.specs.Hex.{fill}
 use Rattle.line_kinds.specs.Kinds.{row_of}
 use Rattle.line_answers.specs.FrameAnswer.{replied_of}
 use Rattle.lines.specs.Answer.{answer_of}

@@ -1,7 +1,7 @@
 -- Assumes nothing. The ways out of the line entry: what `outcome_of` is, from what each of
 -- its parts says on the way there.
 use mathlib.Core.Path.{◌≡◌, refl, ap, sym, ◌∙◌, fun_ext}
-use mathlib.Core.Bool.{Bool, true, false, cond, not, ◌&&◌}
+use mathlib.Core.Bool.{Bool, true, false, ◌&&◌}
 use mathlib.Core.List.{List, [], ◌∷◌, ◌++◌}
 use Prim.Native.Nat.{ℕ, zero, suc, ◌+◌, ◌*◌, ◌/◌, ◌%◌, ◌≤◌}
 use native.Mathlib.Omega.{arith}
@@ -12,15 +12,15 @@ use borrow.Author.Tests.{eq-eqb, ne_eqb, le-ltb, eqb-true, leb-true}
 use Rattle.hex_bytes.proofs.Digits.{and_left, and_right}
 use Rattle.hex_bytes.specs.Hex.{Filled, all_digits_of, bytes_of, fill, decode_of}
 use Rattle.line_kinds.specs.declared.Row.{Row}
-use Rattle.line_kinds.specs.Kinds.{frame_most, line_most, places_of, row_of}
+use Rattle.line_kinds.specs.Kinds.{frame_most, line_most, row_of}
 use Rattle.line_kinds.proofs.Rows.{sound}
 use Rattle.line_frame.specs.Frame.{Frame, byte_at}
-use Rattle.line_questions.specs.Questions.{Question, ask, length_fits_of, is_kind, bytes_fit, questions_of}
+use Rattle.line_questions.specs.Questions.{ask, length_fits_of, is_kind}
 use Rattle.line_questions.specs.Questions.{line_questions_of}
 use Rattle.line_questions.specs.Questions.{AllYes}
 use Rattle.line_questions.proofs.Asked.{past}
-use Rattle.line_answers.specs.FrameAnswer.{Answer, reply_of, replied_of, frame_answer_of}
-use Rattle.lines.specs.Answer.{answer_of, Outcome, outcome_of}
+use Rattle.line_answers.specs.FrameAnswer.{replied_of, frame_answer_of}
+use Rattle.lines.specs.Answer.{answer_of, outcome_of}
 use Rattle.line_answers.proofs.Replies.{refused}
 
 -- ---- a frame in its array, zeros after it

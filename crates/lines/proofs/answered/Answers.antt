@@ -1,11 +1,5 @@
 -- The line entry is `outcome_of`: one law for each way out (Entry.antt). Assumes nothing.
-use mathlib.Core.Path.{◌≡◌, sym, ◌∙◌}
-use mathlib.Core.Bool.{true}
-use mathlib.Core.List.{List}
-use Prim.Native.Nat.{ℕ}
-use lib.ListN.{length}
-use borrow.Author.Tests.{not-true, not-false}
-use Rattle.line_questions.specs.Questions.{length_fits_of}
+use mathlib.Core.Path.{sym, ◌∙◌}
 use Rattle.lines.proofs.Entry.{first, second, third, fourth, later, all}
 use Rattle.lines.proofs.answered.Goals as goal
 

@@ -1,18 +1,15 @@
 -- `shape_line` is the answer to a frame of twelve numbers: its questions in order, then the reply. Assumes nothing.
-use mathlib.Core.Path.{◌≡◌, ap, sym, ◌∙◌}
-use mathlib.Core.Bool.{Bool, true, cond}
+use mathlib.Core.Path.{ap, sym, ◌∙◌}
 use mathlib.Core.List.{List}
 use Prim.Native.Nat.{ℕ, ◌≤◌}
 use lib.ListN.{length}
 use borrow.Author.Tests.{not-true, not-false}
 use Rattle.profile.specs.declared.Checked.{Checked}
-use Rattle.step2_solver.specs.declared.Shape.{Shape}
 use Rattle.step2_quartics.specs.declared.Quartics.{Quartics}
 use Rattle.line_kinds.specs.Kinds.{quartics_places}
 use Rattle.line_frame.specs.Frame.{Frame, byte_at}
-use Rattle.line_frame.specs.Numbers.{move_finite, move_of}
 use Rattle.line_frame.proofs.Finite.{move_read, move_unread}
-use Rattle.line_questions.specs.Questions.{counts_fit_of, quartics_at}
+use Rattle.line_questions.specs.Questions.{quartics_at}
 use Rattle.line_reply.specs.Reply.{written_of}
 use Rattle.line_answers.specs.ShapeLine.{shape_line_of, shape_bytes, shape_places, shape_written}
 use Rattle.line_answers.specs.QuarticLine.{both_bytes}
