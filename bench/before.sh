@@ -4,14 +4,14 @@
 #
 #   bench/before.sh ARCHIVE SEED
 #
-# ARCHIVE is the other commit's liblines.a (there, `rt staticlib lines`); kinds that it does not answer are left out.
+# ARCHIVE is the other commit's liblines.a (there, `tools/make.sh library lines_c lines`); kinds that it does not answer are left out.
 # Where a library comes to lie in a program moves its time by up to two in a hundred, so there are two programs, with
 # the two libraries in one order and in the other. Needs rt, rustc and objcopy.
 set -eu
 
 . "$(dirname "$0")/begin.sh"
 need_oracle
-staticlib lines
+staticlib lines_c lines
 
 # renamed ARCHIVE NAME: the archive as libNAME.a, with NAME_counted for answer_counted.
 renamed() {

@@ -19,9 +19,9 @@ need_oracle() {
     [ -x "$last" ] && [ -z "$(find "$root/oracle" -type f -newer "$last")" ] || "$root/oracle/build.sh" >&2
 }
 
-# staticlib NAME: proves the crate and makes its library, which is silent unless it fails.
+# staticlib NAME [AS]: proves the crate and makes its library, which is silent unless it fails.
 staticlib() {
-    (cd "$root" && rt staticlib "$1") > "$out/staticlib.log" 2>&1 || {
+    "$root/tools/make.sh" library "$@" > "$out/staticlib.log" 2>&1 || {
         cat "$out/staticlib.log" >&2
         exit 1
     }

@@ -13,7 +13,7 @@ set -eu
 
 . "$(dirname "$0")/begin.sh"
 need_oracle
-[ -n "${LIBRARY:-}" ] || staticlib lines
+[ -n "${LIBRARY:-}" ] || staticlib lines_c lines
 compile million million/main.rs -C target-cpu="${CPU:-x86-64}" --extern plain="$oracle/plain/liboracle.rlib" \
     --extern rsruckig="$oracle/plain/librsruckig.rlib"
 echo "seed ${1:-1}"

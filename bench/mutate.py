@@ -18,6 +18,9 @@ rewrite that the proof file counts on. The first error tells, by its words (SHAP
 change that leaves the static libraries of the crates with exported functions as they were, though another change of
 that function does not.
 
+It was written for rattle-kit-5b, whose `rt dev` and rattle-cases it calls: with today's kit it does not run, and
+`rt plant` in a crate's folder tries wrong bodies in its place.
+
 It needs a repository that is checked (`rt check`), and writes target/mutate/SEED-COUNT.txt: tables by crate and by
 kind, a line for each change, and under it the prover's first error. All that the prover said is in a folder beside it.
 """

@@ -9,7 +9,7 @@ out=$root/target/hosts
 lines=${1:-$root/samples/moves.txt}
 replies=${2:-}
 
-[ -f "$library" ] || (cd "$root" && rt staticlib lines) >&2
+[ -f "$library" ] || "$root/tools/make.sh" library lines_c lines >&2
 mkdir -p "$out"
 
 # run HOST NAME WHERE: the host on the lines. With replies, what it writes is compared with

@@ -3,7 +3,8 @@
 #
 #   oracle/compare.sh SEED COUNT [KIND..]     COUNT accepted lines of each kind; all kinds where none is named
 #
-# Needs target/bin/moves_list, which `rt check moves_list` makes, and target/oracle, which oracle/build.sh makes.
+# Needs target/bin/moves_list, which `tools/make.sh program moves_list` makes, and target/oracle, which oracle/build.sh
+# makes.
 set -eu
 
 root=$(cd "$(dirname "$0")/.." && pwd)
@@ -15,7 +16,7 @@ shift 2
 [ $# -gt 0 ] || set -- 00 01 02 03 04 05 06 07 08 11 12 13 14 15
 
 [ -x "$oracle/generate" ] || "$root/oracle/build.sh"
-[ -x "$port" ] || (cd "$root" && rt check moves_list)
+[ -x "$port" ] || "$root/tools/make.sh" program moves_list
 work=$(mktemp -d)
 trap 'rm -rf "$work"' EXIT
 status=0

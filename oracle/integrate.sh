@@ -14,7 +14,7 @@ seed=$1
 last=$(($1 + $2 - 1))
 
 [ -x "$oracle/lists" ] || "$root/oracle/build.sh"
-[ -x "$port" ] || (cd "$root" && rt check integrate_list)
+[ -x "$port" ] || "$root/tools/make.sh" program integrate_list
 work=$(mktemp -d)
 trap 'rm -rf "$work"' EXIT
 while [ "$seed" -le "$last" ]; do

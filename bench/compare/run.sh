@@ -10,12 +10,12 @@
 # line and the port's time over the Rust's, kind by kind. KINDS is a list such as
 # 00,01,15, all kinds if not given. It ends with status 1 if there is a difference.
 #
-# It needs the oracle (oracle/build.sh) and the static library (rt staticlib lines),
+# It needs the oracle (oracle/build.sh) and the static library (tools/make.sh),
 # and makes what is missing.
 set -eu
 
 . "$(dirname "$0")/../begin.sh"
 need_oracle
-[ -f "$library" ] || staticlib lines
+[ -f "$library" ] || staticlib lines_c lines
 compile compare main.rs --extern cases="$oracle/libcases.rlib" --extern plain="$oracle/plain/liboracle.rlib"
 "$out/compare" "$@"

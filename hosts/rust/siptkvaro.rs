@@ -1,5 +1,5 @@
 //! The line entry of Siptkvaro behind a safe function. Link liblines.a
-//! (`rt staticlib lines`); `include/siptkvaro.h` has the contract in words.
+//! (`tools/make.sh library lines_c lines`); `include/siptkvaro.h` has the contract in words.
 
 /// The longest reply, in places: lent as many, no line is refused by question 8.
 pub const LONGEST_REPLY: usize = 732;
