@@ -2,14 +2,15 @@
 use mathlib.Core.Path.{◌≡◌, refl, ap, sym, ◌∙◌}
 use mathlib.Core.Bool.{Bool, true, false, ◌&&◌, and-true, and_assoc}
 use mathlib.Core.List.{List, [], ◌∷◌}
-use Prim.Native.Nat.{ℕ, ◌+◌, ◌*◌, ◌^◌, ◌<◌, ◌≤◌}
+use Prim.Native.Nat.{ℕ, ◌+◌, ◌-◌, ◌*◌, ◌^◌, ◌<◌, ◌≤◌}
 use native.Mathlib.Nat.{pow-le-pow_right, pow-succ', lt_of_lt_of_le}
 use native.Mathlib.Numerals.{add-one}
 use native.Mathlib.Omega.{arith}
+use lib.Dec.{ltb}
 use lib.ListN.{length, take, drop, get_or, length-take, length-drop}
 use lib.Seq.{drop-cons, drop-length, get_or-take, get_or-drop}
 use lib.Ieee.{binary64, of_bits}
-use borrow.Author.Tests.{le-ltb, lt-ltb}
+use borrow.Author.Tests.{le-ltb, lt-ltb, ltb-true, ltb-false}
 use Rattle.hex_bytes.specs.Hex.{Filled, is_digit_of, all_digits_of, value_of, encode_of}
 use Rattle.hex_bytes.proofs.Digits.{value_lt}
 use Rattle.digits.specs.Digits.{value_after, read_of}
@@ -19,6 +20,12 @@ module _ (line : List ℕ) (at : ℕ) where
   pub short : length line < at + 16 → record { ok = false; x = of_bits binary64 0 } ≡ read_of line at
   unfolding read_of
   short h = rw (lt-ltb (length line) (at + 16) h)
+
+  pub few : ltb (length line - at) 16 ≡ true → length line < at + 16
+  few h = omega (arith, ltb-true (length line - at) 16 h)
+
+  pub enough : at ≤ length line → ltb (length line - at) 16 ≡ false → at + 16 ≤ length line
+  enough h k = omega (arith, ltb-false (length line - at) 16 k)
 
   abbrev characters : List ℕ
   characters = take 16 (drop at line)
