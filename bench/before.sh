@@ -4,7 +4,8 @@
 #
 #   bench/before.sh ARCHIVE SEED
 #
-# ARCHIVE is the other commit's liblines.a (there, `tools/make.sh library lines_c lines`); kinds that it does not answer are left out.
+# ARCHIVE is the other commit's liblines.a (made there by `tools/make.sh library lines_c lines`, before the port to
+# rattle-kit-13f by `rt staticlib lines` of the older kit); kinds that it does not answer are left out.
 # Where a library comes to lie in a program moves its time by up to two in a hundred, so there are two programs, with
 # the two libraries in one order and in the other. Needs rt, rustc and objcopy.
 set -eu

@@ -1,4 +1,4 @@
-/* The line entry of Siptkvaro, for a host in C: link liblines.a (`rt staticlib lines`). */
+/* The line entry of Siptkvaro, for a host in C: link liblines.a (`tools/make.sh library lines_c lines`). */
 #ifndef SIPTKVARO_H
 #define SIPTKVARO_H
 

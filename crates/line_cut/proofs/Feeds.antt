@@ -1,4 +1,4 @@
--- The search for a line feed, thirty_two characters at once, eight or one. Assumes nothing.
+-- The search for a line feed, thirty-two characters at once, eight or one. Assumes nothing.
 use mathlib.Core.Path.{◌≡◌, refl, ap, sym, ◌∙◌}
 use mathlib.Core.Bool.{Bool, true, false, cond, not, ◌&&◌, true≢false, and_assoc, and-true}
 use mathlib.Core.List.{List, [], ◌∷◌}
@@ -47,7 +47,7 @@ module _ (input : List ℕ) (i : ℕ) where
       (one 1 6 (omega arith)
       ∙ ap (λ (b : Bool). other 6 && b) (one 0 7 (omega arith) ∙ and-true (other 7))))))))))
 
--- ---- thirty_two: four times eight
+-- ---- thirty-two: four times eight
 -- none among the first of a list and none among the next
 both : (n m : ℕ) (l : List ℕ) → no_feed_of (n + m) l ≡ no_feed_of n l && no_feed_of m (drop n l)
 both zero m l = rw (zero-add m)

@@ -2,7 +2,8 @@
 // line feed.
 #![tactic(auto)]
 
-ghost use Rattle.std.specs.Prelude.{length, take};
+ghost use Rattle.std.specs.Prelude.{◌≡◌, length, take};
+ghost use Rattle.line_program.specs.Counts.{clamp_len};
 ghost use Rattle.line_cut.specs.Stream.{Streams};
 ghost use Rattle.line_stream.specs.Output.{turn_of};
 
@@ -17,10 +18,18 @@ const BLOCK: usize = 65536;
 
 const OUT: usize = SPREAD * BLOCK + 2 * ROOM;
 
-// Answers the lines that end in what a read gave: the first n characters of the block that it was lent, or the whole
-// block where n is more than that.
+fn given(got: isize, block: &[u8]) -> usize
+    ensures { result ≡ clamp_len got (length block.now) }
+{
+    if got < 0 {
+        return 0;
+    }
+    (got as usize).min(block.len())
+}
+
+// Answers the lines that end in what a read gave: `got` is what it said, of the block that it was lent.
 fn turn(
-    n: usize,
+    got: isize,
     block: &[u8; BLOCK],
     kept: &mut [u8; KEPT],
     count: usize,
@@ -28,12 +37,12 @@ fn turn(
 ) -> Streamed
     ensures { Streams
         (turn_of (take count kept.old)
-        (take n block.now))
+        (take (clamp_len got (length block.now)) block.now))
         result.used result.count result.filled kept.new out.old out.new }
 {
     // the first places are to be had of a slice, not of a lent array
     let block: &[u8] = block;
-    let n = n.min(block.len());
+    let n = given(got, block);
     line_stream::stream(&block[..n], kept, count, out)
 }
 
@@ -54,7 +63,7 @@ fn main(rt: HostRuntime) -> io::Result<()> {
             let n = line_stream::finish(&kept, count, &mut last);
             return output.write_all(&last[..n]);
         }
-        let t = turn(got, &block, &mut kept, count, &mut out);
+        let t = turn(got as isize, &block, &mut kept, count, &mut out);
         let filled = t.filled;
         output.write_all(&out[..filled])?;
         count = t.count;
