@@ -1,13 +1,13 @@
 #!/bin/sh
-# Times lines through the static library of `lines` beside that of another commit, and lines of kinds 11 to 15 beside
+# Times lines through the static library liblines.a beside that of another commit, and lines of kinds 11 to 15 beside
 # the same lines of kinds 01 to 05.
 #
 #   bench/before.sh ARCHIVE SEED
 #
-# ARCHIVE is the other commit's liblines.a (made there by `tools/make.sh library lines_c lines`, before the port to
-# rattle-kit-13f by `rt staticlib lines` of the older kit); kinds that it does not answer are left out.
-# Where a library comes to lie in a program moves its time by up to two in a hundred, so there are two programs, with
-# the two libraries in one order and in the other. Needs rt, rustc and objcopy.
+# ARCHIVE is the other commit's liblines.a (there, `tools/make.sh library lines_c lines`; before the port to
+# rattle-kit-13f, `rt staticlib lines` of rattle-kit-5b); kinds that it does not answer are left out. Where a library
+# comes to lie in a program moves its time by up to two in a hundred, so there are two programs, with the two libraries
+# in one order and in the other. Needs rt, rustc and objcopy.
 set -eu
 
 . "$(dirname "$0")/begin.sh"

@@ -8,8 +8,8 @@
 
 From the type of each theorem, or the `ensures` of each function, every name is followed to its definition by the
 `use` lines of its file, and so on from there. A definition is counted with the comment right above it, without blank
-lines and imports. Names of lib, mathlib, Prim and the other libraries of the toolchain end the search. An enum or a
-struct of the code (`specs.declared`) is counted as it stands in src/.
+lines and imports. Names of std, lib, mathlib, Prim and the other libraries of the toolchain end the search. An enum or
+a struct of the code (`specs.declared`) is counted as it stands in src/.
 """
 import os
 import re
@@ -22,34 +22,36 @@ CRATES = os.path.join(ROOT, "crates")
 # A cut is a name that is not followed: it belongs to a later list.
 LISTS = [
     ("demand 1", [("lines", "src", "answer_line"), ("lines", "src", "answered"),
-                  ("line_places/Places", "proofs", "after-a-number"),
-                  ("line_places/Places", "proofs", "after-a-reply"),
-                  ("line_places/Places", "proofs", "at-most-eight"),
-                  ("line_places/Places", "proofs", "every-yes")], [], ["replyOf"]),
+                  ("lines_c", "src", "answer_line"), ("lines_c", "src", "answer_counted"),
+                  ("line_places/Places", "proofs", "after_a_number"),
+                  ("line_places/Places", "proofs", "after_a_reply"),
+                  ("line_places/Places", "proofs", "at_most_eight"),
+                  ("line_places/Places", "proofs", "every_yes")], [], ["reply_of"]),
     ("line program", [("line_program", "src", "turn"), ("line_stream", "src", "finish"),
-                      ("line_stream/Whole", "proofs", "whole-blocks"), ("line_stream/Whole", "proofs", "whole")],
-     ["demand 1"], ["replyOf"]),
-    ("demand 2", [("lines", "src", "answer_line"), ("lines", "src", "answered")], ["demand 1"], []),
-    ("paper 1", [("profile/Causes", "proofs", "in-order"), ("profile/Causes", "proofs", "yes-is-cause"),
-                 ("profile/Causes", "proofs", "one-call-more"), ("profile/Causes", "proofs", "a-call-has-a-cause"),
-                 ("profile/Causes", "proofs", "apart"), ("step2_attempt/Calls", "proofs", "tried-apart"),
-                 ("position_third_step2/Calls", "proofs", "shape-calls"),
-                 ("position_third_step2/Calls", "proofs", "few-calls"),
-                 ("position_third_step2/Calls", "proofs", "shape-verdict"),
-                 ("position_third_step2/Calls", "proofs", "no-call"),
+                      ("line_stream/Whole", "proofs", "whole_blocks"), ("line_stream/Whole", "proofs", "whole")],
+     ["demand 1"], ["reply_of"]),
+    ("demand 2", [("lines", "src", "answer_line"), ("lines", "src", "answered"),
+                  ("lines_c", "src", "answer_line"), ("lines_c", "src", "answer_counted")], ["demand 1"], []),
+    ("paper 1", [("profile/Causes", "proofs", "in_order"), ("profile/Causes", "proofs", "yes_is_cause"),
+                 ("profile/Causes", "proofs", "one_call_more"), ("profile/Causes", "proofs", "a_call_has_a_cause"),
+                 ("profile/Causes", "proofs", "apart"), ("step2_attempt/Calls", "proofs", "tried_apart"),
+                 ("position_third_step2/Calls", "proofs", "shape_calls"),
+                 ("position_third_step2/Calls", "proofs", "few_calls"),
+                 ("position_third_step2/Calls", "proofs", "shape_verdict"),
+                 ("position_third_step2/Calls", "proofs", "no_call"),
                  ("position_third_step2/Calls", "proofs", "some-call"),
-                 ("line_places/ActsAs", "proofs", "acts-as")], ["demand 1", "demand 2"], []),
-    ("paper 4", [("line_places/RestToRest", "proofs", "as-04")], ["demand 1", "demand 2"], []),
-    ("paper 6", [("sqrt/Laws", "proofs", "marked-are"), ("profile/Marks", "proofs", "mark-apart"),
-                 ("profile/Marks", "proofs", "kept-from-check"), ("profile_arrives/NanTimes", "proofs", "nan-time"),
-                 ("step2_attempt/Calls", "proofs", "last-counts"),
-                 ("step2_arrives/Marked", "proofs", "marked-never-yes"),
-                 ("step2_arrives/Marked", "proofs", "marked-have-13")], ["demand 1", "demand 2", "paper 1"], []),
-    ("demand 3", [("line_arrives/Theorem", "proofs", "yes-arrives"),
-                  ("line_arrives/Theorem", "proofs", "yes-arrives-closely")], ["demand 1", "demand 2"], []),
-    ("other theorems", [("sqrt/Nearest", "proofs", "sqrt-nearest"), ("float/Halving", "proofs", "halving"),
-                        ("marked_moves/Table", "proofs", "marked-moves"),
-                        ("worked_lines/Worked", "proofs", "worked-arrive")],
+                 ("line_places/ActsAs", "proofs", "acts_as")], ["demand 1", "demand 2"], []),
+    ("paper 4", [("line_places/RestToRest", "proofs", "as_04")], ["demand 1", "demand 2"], []),
+    ("paper 6", [("sqrt/Laws", "proofs", "marked_are"), ("profile/Marks", "proofs", "mark_apart"),
+                 ("profile/Marks", "proofs", "kept-from_check"), ("profile_arrives/NanTimes", "proofs", "nan-time"),
+                 ("step2_attempt/Calls", "proofs", "last_counts"),
+                 ("step2_arrives/Marked", "proofs", "marked_never_yes"),
+                 ("step2_arrives/Marked", "proofs", "marked_have_13")], ["demand 1", "demand 2", "paper 1"], []),
+    ("demand 3", [("line_arrives/Theorem", "proofs", "yes_arrives"),
+                  ("line_arrives/Theorem", "proofs", "yes_arrives_closely")], ["demand 1", "demand 2"], []),
+    ("other theorems", [("sqrt/Nearest", "proofs", "sqrt_nearest"), ("float/Halving", "proofs", "halving"),
+                        ("marked_moves/Table", "proofs", "marked_moves"),
+                        ("worked_lines/Worked", "proofs", "worked_arrive")],
      ["demand 1", "demand 2", "paper 1", "paper 4", "paper 6", "demand 3"], []),
 ]
 
@@ -70,7 +72,8 @@ class File:
                 words = item.split(" as ")
                 self.brings[words[-1].strip()] = (m.group(1), words[0].strip())
         self.defines = {}
-        self.split()
+        if path.endswith(".antt"):
+            self.split()
 
     def split(self):
         """Declarations begin after a blank line or a comment; a comment right above one belongs to it."""
@@ -118,7 +121,8 @@ def declared(crate, name):
     for base, _, names in os.walk(os.path.join(CRATES, crate, "src")):
         for n in sorted(names):
             text = read(os.path.join(base, n))
-            m = re.search(r"((?:^//[^\n]*\n)*)^pub (?:struct|enum) " + name + r" \{.*?^\}", text, re.S | re.M)
+            m = re.search(r"((?:^//[^\n]*\n)*)(?:^#\[[^\n]*\n)*^pub (?:struct|enum) " + name + r" \{.*?^\}", text,
+                          re.S | re.M)
             if m:
                 return os.path.join(base, n), m.group(0)
     return None
@@ -131,15 +135,15 @@ def resolve(here, name):
     if name not in here.brings:
         return None
     module, original = here.brings[name]
-    m = re.match(r"Rattle·(\w+)(?:·(?:specs|proofs))?\.(.*)$", module)
+    m = re.match(r"Rattle\.(\w+)\.(specs|proofs)\.(.*)$", module)
     if not m:
         return None
-    crate, rest = m.group(1), m.group(2).split(".")
-    if "declared" in rest:
-        kind = rest[-2] if rest[-1] == "the-variants" else rest[-1]
+    crate, rest = m.group(1), m.group(3).split(".")
+    if rest[0] == "declared":
+        kind = rest[-2] if rest[-1] == "TheVariants" else rest[-1]
         found = declared(crate, kind)
         return (found[0], kind, found[1]) if found else None
-    target = file_of(os.path.join(CRATES, crate, *rest) + ".antt")
+    target = file_of(os.path.join(CRATES, crate, m.group(2), *rest) + ".antt")
     if target is None:
         return None
     return target, original
@@ -149,19 +153,19 @@ def words(text):
     """Every name but those of fields, which stand after a point or before an equals sign in a record, and of what the
     text itself binds."""
     text = re.sub(r"--.*", "", text)
-    text = re.sub(r"\s\.[^\s(){}]+", " ", text)
+    text = re.sub(r"(?<=[^\s({\[,;.])(?:\.[^\s(){}\[\];,.]+)+", " ", text)
     text = re.sub(r"([{;]\s*)[^\s{};]+ =", r"\1", text)
     bound = set(" ".join(re.findall(r"[({]([^(){}:=]+) : ", text)).split())
     return set(re.findall(r"[^\s(){}\[\];,⌜⌝.]+", text)) - bound
 
 
 def operators(here, text):
-    """An operator such as _⊕_ is written without its places."""
+    """An operator such as ◌⊕◌ is written without its places."""
     found = set()
     text = re.sub(r"--.*", "", text)
     for name in list(here.brings) + list(here.defines):
-        if "_" in name and "«" not in name:
-            parts = [p for p in name.split("_") if p]
+        if "◌" in name:
+            parts = [p for p in name.split("◌") if p]
             if parts and all(p in text for p in parts):
                 found.add(name)
     return found
@@ -182,11 +186,12 @@ def type_of(block, name):
 
 
 def promise(crate, function):
-    """The `ensures` of a function."""
+    """The clauses of a function."""
     for base, _, names in os.walk(os.path.join(CRATES, crate, "src")):
         for n in sorted(names):
             path = os.path.join(base, n)
-            m = re.search(r"fn " + function + r"\(.*?(ensures \{.*?⌝ \})", read(path), re.S)
+            m = re.search(r"fn " + function + r"\(.*?^ *((?:(?:requires|ensures) (?:\w+ )?\{.*?)+)^ *\{", read(path),
+                          re.S | re.M)
             if m:
                 return file_of(path), m.group(1)
     raise SystemExit("no promise of %s in %s" % (function, crate))

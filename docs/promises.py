@@ -4,9 +4,9 @@
     docs/promises.py
 
 Every public function has a row; a row names at least two must-fail edits, and none that is not there; every edit is
-named; no public function has a `requires`; an edit with † changes no file of src/ outside a promise, one without †
-does. Status 1 where something is missing. A function is public where it is `pub` in src/lib.rt or in a `pub mod` of
-it, or a `pub` method of a type that is.
+named; every public function has an `ensures`, with or without a name, and no `requires`; an edit with † changes no
+file of src/ outside a promise, one without † does. Status 1 where something is missing. A function is public where it
+is `pub` in src/lib.rt or in a `pub mod` of it, or a `pub` method of a type that is.
 """
 import glob
 import os
@@ -35,6 +35,40 @@ def functions(text, prefix, methods_only):
             yield prefix + of + "::" + m.group(3), m.group(4)
         elif not methods_only and not m.group(2):
             yield prefix + m.group(3), m.group(4)
+
+
+def clauses(text):
+    """(keyword, start, end) of each `ensures` and `requires` of a file, with or without a name."""
+    for m in re.finditer(r"^ *(ensures|requires) (?:\w+ )?\{", text, re.M):
+        end, depth = m.end(), 1
+        while depth:
+            depth += {"{": 1, "}": -1}.get(text[end], 0)
+            end += 1
+        yield m.group(1), m.start(), end
+
+
+def in_a_promise(text, old):
+    """Whether a text stands in a clause or in a `ghost use`, and not in the code."""
+    at = text.find(old)
+    inside = any(start <= at and at + len(old) <= end for _, start, end in clauses(text))
+    return inside or text[text.rfind("\n", 0, at) + 1:].startswith("ghost use")
+
+
+def olds(edit):
+    """(file, text) of each place that an edit changes."""
+    path = None
+    for line in edit.split("\n"):
+        if line.startswith("file: "):
+            path = line[6:]
+        elif line.startswith("old: "):
+            yield path, line[5:]
+
+
+def asking(text):
+    """How many functions of a file have a `requires`."""
+    text = re.sub(r"//.*", "", text)
+    contracts = re.findall(r'^ *(?:pub )?(?:extern "C" )?fn \w+(.*?)^ *\{', text, re.M | re.S)
+    return sum(any(kind == "requires" for kind, _, _ in clauses(c)) for c in contracts)
 
 
 def public(crate):
@@ -76,7 +110,7 @@ def rows():
     return out
 
 
-CRATES = [l.split(":")[0].strip() for l in read("crates.txt").split("\n") if l.strip() and l[0] != "#"]
+CRATES = [l.split(":")[0].split()[0] for l in read("crates.txt").split("\n") if l.strip() and l[0] != "#"]
 EDITS = {"%s/%s" % (p.split("/")[1], os.path.basename(p)[:-5]): read(p) for p in glob.glob("crates/*/must-fail/*.edit")}
 WRONG = []
 
@@ -84,26 +118,29 @@ WRONG = []
 def main():
     listed = rows()
     wrong = sorted(set(WRONG))
-    count = programs = theorems = with_functions = 0
+    count = programs = theorems = with_functions = promises = 0
     for crate in CRATES:
         programs += os.path.exists("crates/%s/src/main.rt" % crate)
-        theorems += os.path.exists("crates/%s/src/lib.rt" % crate) and not re.sub(r"//.*", "", read(
+        theorems += os.path.exists("crates/%s/src/lib.rt" % crate) and not re.sub(r"//.*|#!\[.*", "", read(
             "crates/%s/src/lib.rt" % crate)).strip()
         found = list(public(crate))
         with_functions += bool(found)
         for name, contract in found:
             count += 1
-            if "requires" in contract:
+            kinds = [kind for kind, _, _ in clauses(contract)]
+            if "requires" in kinds:
                 wrong.append("%s::%s has a requires" % (crate, name))
-            if contract.count("ensures") != 1:
-                wrong.append("%s::%s has %d ensures" % (crate, name, contract.count("ensures")))
+            if "ensures" not in kinds:
+                wrong.append("%s::%s has no ensures" % (crate, name))
+            promises += kinds.count("ensures")
             edits = listed.get(crate, {}).get(name)
             if edits is None:
                 wrong.append("%s::%s has no row" % (crate, name))
             elif len(set(edits)) < 2:
                 wrong.append("%s::%s: %s" % (crate, name, edits or "no edit"))
-    extern = sum(len(re.findall(r'^pub extern "C" fn', read(p), re.M)) for p in glob.glob("crates/*/src/**/*.rt",
-                                                                                       recursive=True))
+    sources = [read(p) for p in glob.glob("crates/*/src/**/*.rt", recursive=True)]
+    extern = sum(len(re.findall(r'^pub extern "C" fn', text, re.M)) for text in sources)
+    asks = sum(asking(text) for text in sources)
     page = read("docs/PROMISES.md")
     named = set(re.findall(r"`([a-z0-9_]+/[a-z0-9_]+)`", page)) | {e for f in listed.values() for l in f.values()
                                                                   for e, _ in l}
@@ -117,20 +154,18 @@ def main():
     for edit, mark in sorted({e for f in listed.values() for l in f.values() for e in l}):
         crate = edit.split("/")[0]
         code = False
-        for path, old in re.findall(r"^file: (.*)$(?:\n(?!file:).*)*?\nold: (.*)$", EDITS[edit], re.M):
-            if path.startswith("src/"):
-                text = read("crates/%s/%s" % (crate, path))
-                at = text.find(old)
-                before = text[:at]
-                code = code or not (before.rfind("ensures {") > before.rfind("⌝ }") or "ghost use" in old)
+        for path, old in olds(EDITS[edit]):
+            text = read("crates/%s/%s" % (crate, path))
+            if old not in text:
+                wrong.append("the edit %s: its text is not in %s" % (edit, path))
+            elif path.startswith("src/"):
+                code = code or not in_a_promise(text, old)
         if code == bool(mark):
             wrong.append("the mark of %s" % edit)
-    asks = sum(len(re.findall(r"^ *requires \{", read(p), re.M)) for p in glob.glob("crates/*/src/**/*.rt",
-                                                                                    recursive=True))
     print("%d crates, of which %d have public functions, %d hold theorems only and %d are programs" %
           (len(CRATES), with_functions, theorems, programs))
-    print('%d public functions, %d of them extern "C"; %d edits; %d requires, at functions that are not public' %
-          (count, extern, len(EDITS), asks))
+    print('%d public functions, %d of them extern "C", with %d promises; %d edits; %d functions with a requires, none '
+          'of them public' % (count, extern, promises, len(EDITS), asks))
     for w in wrong:
         print(w)
     sys.exit(1 if wrong else 0)

@@ -1,4 +1,5 @@
-/* The line entry of Siptkvaro, for a host in C: link liblines.a (`tools/make.sh library lines_c lines`). */
+/* The line entry of Siptkvaro, for a host in C: link target/staticlib/liblines.a, which
+ * `tools/make.sh library lines_c lines` makes of the crate lines_c. */
 #ifndef SIPTKVARO_H
 #define SIPTKVARO_H
 

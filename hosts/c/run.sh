@@ -1,5 +1,5 @@
 #!/bin/sh
-# Builds the C host over the static library of `lines`, and runs it on lines.
+# Builds the C host over the static library liblines.a, and runs it on lines.
 #
 #   hosts/c/run.sh [LINES [REPLIES]]
 #

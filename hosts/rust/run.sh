@@ -1,5 +1,5 @@
 #!/bin/sh
-# Builds the Rust host over the static library of `lines`, and runs it on lines.
+# Builds the Rust host over the static library liblines.a, and runs it on lines.
 #
 #   hosts/rust/run.sh [LINES [REPLIES]]
 #
