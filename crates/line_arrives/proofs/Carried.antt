@@ -16,7 +16,7 @@ use Rattle.rounding.specs.Step.{Node, from}
 use Rattle.profile_arrives.specs.Reply.{time, jerk, node, after, Within}
 use Rattle.profile_arrives.specs.Arrives.{Fraction, Distances, At}
 use Rattle.step2_arrives.specs.Moves.{MoveNumbers, Starts, Close, Arrival}
-use Rattle.line_arrives.specs.LineArrives.{move_in, time_in, jerk_in, state_after, duration, Sizes, VelocityKept}
+use Rattle.line_arrives.specs.LineArrives.{move_in, time_in, jerk_in, state_after, Sizes, VelocityKept}
 use Rattle.line_arrives.specs.LineArrives.{AccelerationKept, LineArrives}
 use Rattle.line_arrives.proofs.Agreeing.{Agree, motion_agrees, lasts_agrees}
 

@@ -1,7 +1,7 @@
 -- Assumes nothing. Demand 3 at the line: where the answer to a line that asks a shape is 0 and the reply
 -- says yes, the reply's times and jerks carry the exact motion from the line's start to its goal, in its
 -- duration and within its limits.
-use mathlib.Core.Path.{◌≡◌, refl, sym, ap, ◌∙◌, subst}
+use mathlib.Core.Path.{◌≡◌, sym, ap, ◌∙◌, subst}
 use mathlib.Core.Bool.{true}
 use mathlib.Core.List.{List, ◌++◌}
 use Prim.Native.Nat.{ℕ, ◌+◌, ◌*◌, ◌<◌}
