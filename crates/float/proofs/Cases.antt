@@ -1,17 +1,17 @@
 -- What the code tests, worked out at each kind of float: NaN, an infinity, a number. Assumes nothing.
 use Prim.Native.Nat.{ℕ, zero, suc, ◌+◌, ◌*◌, ◌%◌, ◌<◌, ◌≤◌, ◌^◌}
-use mathlib.Core.Path.{◌≡◌, refl, ap, sym, subst, ◌∙◌}
+use mathlib.Core.Path.{◌≡◌, refl, sym, subst, ◌∙◌}
 use mathlib.Core.Bool.{Bool, true, false, not, ◌&&◌, cond, true≢false}
 use native.Mathlib.Nat.{mul-one, one-mul, mul-pos, zero-lt-suc, pow-succ'}
 use native.Mathlib.Omega.{arith}
 use lib.IntN.{ℤ, pos, negsuc}
 use lib.Dec.{T, eqb, ltb, eqb→eq, ltb→lt}
-use lib.Ieee.{Float, nan, inf, fin, binary64, up, down, lt, eq, ne, neg, fits, is_nan, nan_bits, of_bits, level}
+use lib.Ieee.{Float, nan, inf, fin, binary64, up, down, lt, eq, neg, fits, is_nan, nan_bits, of_bits}
 use lib.Ieee.Fits.{up_pos}
 use lib.Ieee.Bits.{nan_bits_is, nan_bits_above}
 use lib.Ieee.Scale.{finite}
-use borrow.Author.Tests.{le-ltb, lt-ltb, eq-eqb, ne_eqb, not-false}
-use Rattle.float.specs.Helpers.{abs_of, min_of, max_of}
+use borrow.Author.Tests.{le-ltb, lt-ltb, ne_eqb}
+use Rattle.float.specs.Helpers.{abs_of}
 
 -- ---- the absolute value
 
@@ -95,40 +95,6 @@ near_is (fin true m e) (fin false n d) =
 near_is (fin false m e) (fin true n d) = refl
 near_is (fin true m e) (fin true n d) = and-false (ltb (n * up d * down e) (m * up e * down d))
 
--- ---- the smaller and the larger: x differs from itself exactly where it is NaN
-own : (s : Bool) (a : ℕ) → level s a s a ≡ true
-own true a = rw (eq-eqb a a refl)
-own false a = rw (eq-eqb a a refl)
-
-pub ne_self : (x : Float) → ne x x ≡ is_nan x
-unfolding ne is_nan
-ne_self nan = refl
-ne_self (inf true) = refl
-ne_self (inf false) = refl
-ne_self (fin s m e) = ap not (own s (m * up e * down e))
-
-pub eq_self : (x : Float) → eq x x ≡ not (is_nan x)
-unfolding eq is_nan
-eq_self nan = refl
-eq_self (inf true) = refl
-eq_self (inf false) = refl
-eq_self (fin s m e) = own s (m * up e * down e)
-
--- a test that fails at NaN needs no question whether y is one
-pub min_is : (x y : Float) → cond (ne x x) y (cond (lt y x) y x) ≡ min_of x y
-unfolding lt is_nan
-min_is x nan = rw (ne_self x)
-min_is x (inf s) = rw (ne_self x)
-min_is x (fin s m e) = rw (ne_self x)
-
-pub max_is : (x y : Float) → cond (ne x x) y (cond (lt x y) y x) ≡ max_of x y
-unfolding lt is_nan
-max_is nan nan = rw (ne_self nan)
-max_is (inf t) nan = rw (ne_self (inf t))
-max_is (fin t k d) nan = rw (ne_self (fin t k d))
-max_is x (inf s) = rw (ne_self x)
-max_is x (fin s m e) = rw (ne_self x)
-
 -- ---- finite
 pub finite_is : (x : Float) → lt (abs_of x) (of_bits binary64 0x7FF0_0000_0000_0000) ≡ finite x
 unfolding lt abs_of of_bits
@@ -142,13 +108,6 @@ unfolding is_nan
 is_nan_lem nan h = refl
 is_nan_lem (inf s) h = absurd (true≢false (sym h))
 is_nan_lem (fin s m e) h = absurd (true≢false (sym h))
-
--- x differs from itself, or is no NaN
-pub nan_of_ne : (x : Float) → eq x x ≡ false → x ≡ nan
-nan_of_ne x h = is_nan_lem x (not-false (is_nan x) (sym (eq_self x) ∙ h))
-
-pub some_of_eq : (x : Float) → eq x x ≡ true → T (not (is_nan x))
-some_of_eq x h = subst T (sym h ∙ eq_self x) tt
 
 -- a pattern is NaN's exactly where it lies above infinity's, its sign left out
 pub some_bits : (b : ℕ) → b % 0x8000_0000_0000_0000 ≤ 0x7FF0_0000_0000_0000 → T (not (nan_bits binary64 b))

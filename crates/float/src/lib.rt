@@ -8,11 +8,7 @@ ghost use Rattle.std.specs.Float.Ieee.{of_bits, to_bits, lt};
 ghost use Rattle.std.specs.Float.Ieee.Scale.{finite};
 ghost use Rattle.float.specs.Helpers.{abs_of, min_of, max_of};
 
-// `f64::INFINITY`, by its bits.
-const INFINITY: u64 = 0x7FF0_0000_0000_0000;
-
-// The bits that stand for every NaN.
-const NAN: u64 = 0x7FF8_0000_0000_0000;
+use std::num::{f64_from_bits_with_nan, f64_to_bits_with_nan};
 
 // x where c holds, else y: a choice between numbers that leaves no branch.
 pub fn pick(c: bool, x: f64, y: f64) -> f64
@@ -39,37 +35,33 @@ pub fn near(d: f64, e: f64) -> bool
 pub fn min(x: f64, y: f64) -> f64
     ensures { result ≡ min_of x y }
 {
-    pick(x != x, y, pick(y < x, y, x))
+    pick(x.is_nan(), y, pick(y < x, y, x))
 }
 
 // `f64::max`.
 pub fn max(x: f64, y: f64) -> f64
     ensures { result ≡ max_of x y }
 {
-    pick(x != x, y, pick(x < y, y, x))
+    pick(x.is_nan(), y, pick(x < y, y, x))
 }
 
 // `f64::is_finite`.
 pub fn is_finite(x: f64) -> bool
     ensures { result ≡ finite x }
 {
-    abs(x) < f64::from_bits(INFINITY)
+    abs(x) < f64::INFINITY
 }
 
 // `f64::from_bits`, at every pattern. The built-in one asks for a pattern that is no NaN's.
 pub fn from_bits(bits: u64) -> f64
     ensures { result ≡ of_bits binary64 bits }
 {
-    if bits % 0x8000_0000_0000_0000 <= INFINITY {
-        f64::from_bits(bits)
-    } else {
-        0.0 / 0.0
-    }
+    f64_from_bits_with_nan(bits)
 }
 
 // `f64::to_bits`, with one pattern for every NaN.
 pub fn to_bits(x: f64) -> u64
     ensures { result ≡ to_bits binary64 x }
 {
-    if x == x { f64::to_bits(x) } else { NAN }
+    f64_to_bits_with_nan(x)
 }
