@@ -5,6 +5,7 @@ use Prim.Native.Nat.{ℕ, ◌+◌, ◌-◌, ◌≤◌}
 use native.Mathlib.Omega.{arith}
 use lib.ListN.{length, take, drop, length-drop, take-append-drop, drop_of_length-le}
 use lib.Seq.{sets, sets-eq, take_all, drop-drop}
+use borrow.Rule.Slice.PartMut.{put_mid}
 
 abbrev pub from : List ℕ → ℕ → List ℕ
 from out at = take (length out - at) (drop at out)
@@ -34,3 +35,10 @@ back-reply out reply at h =
       sets-eq reply out at h,
     )
     (sym (append_assoc (take at out) reply _))
+
+-- a part lent from one place on, with other characters in it
+pub mid-sets : (out part text : List ℕ) (at k : ℕ) → part ≡ text → k ≡ length text → at + k ≤ length out
+    → put_mid at k out part ≡ sets out at text
+mid-sets out part text at k e l h =
+    let fits : at + length text ≤ length out = omega arith in
+    rw (e, l, drop-drop (length text) at out, sets-eq text out at fits) (sym (append_assoc (take at out) text _))

@@ -1,34 +1,21 @@
 -- A turn of each loop, and its end: what is still to be stored from here is the whole from the start. Assumes nothing.
-use mathlib.Core.Path.{◌≡◌, refl, ap, sym, ◌∙◌}
-use mathlib.Core.Bool.{Bool, true, false, ◌&&◌, ◌||◌, and_assoc, and-true}
-use mathlib.Core.List.{List, [], ◌∷◌, map}
+use mathlib.Core.Path.{◌≡◌, refl, ap, ◌∙◌}
+use mathlib.Core.Bool.{true}
+use mathlib.Core.List.{List, [], ◌∷◌, ◌++◌, map, append-nil}
 use Prim.Native.Nat.{ℕ, zero, suc, ◌+◌, ◌-◌, ◌*◌, ◌/◌, ◌%◌, ◌≤◌, ◌<◌}
 use native.Mathlib.Nat.{zero-add, add-zero}
 use native.Mathlib.Numerals.{add-one}
 use native.Mathlib.Omega.{arith}
-use lib.Dec.{eqb, ltb}
-use lib.ListN.{length, get_or, take, drop, set, length-append, length-drop, length-map, drop_of_length-le}
-use lib.ListN.{get_or-append}
-use lib.Seq.{take_all, drop-cons, drop-drop, drop-set-lt, get_or-drop, take_at, drop_at, slice, slice-cons, slice_empty}
+use lib.ListN.{length, get_or, take, drop, set, length-drop, length-map, drop_of_length-le}
+use lib.Seq.{take_all, drop-cons, get_or-drop}
 use lib.Seq.{sets, sets-eq}
-use borrow.Author.Tests.{lt-ltb, le-ltb, ltb-false}
 use Rattle.hex_bytes.specs.Hex.{is_digit_of, all_digits_of, value_of, pairs_of, bytes_of, digit_of, hex_of, fill}
-use Rattle.hex_bytes.specs.Hex.{decode_of, encode_of}
 use Rattle.hex_bytes.specs.Steps.{nibbles_of}
-use Rattle.hex_bytes.proofs.Digits.{and_left, and_right, or_right}
+use Rattle.hex_bytes.proofs.Digits.{and_left, and_right}
 use Rattle.hex_bytes.proofs.Pair.{digit_lt}
+use Rattle.hex_bytes.proofs.Laws.{length_hex}
 
--- ---- decoding: whether all are digits
-module _ (line : List ℕ) (k : ℕ) where
-  pub tested : (ok : Bool) → k < length line
-      → (ok && is_digit_of (get_or line k 0)) && all_digits_of (drop (k + 1) line) ≡ ok && all_digits_of (drop k line)
-  tested ok h =
-      rw (add-one k, drop-cons line k 0 h)
-      (and_assoc ok (is_digit_of (get_or line k 0)) (all_digits_of (drop (suc k) line)))
-
-  pub all_tested : (ok : Bool) → length line ≤ k → ok ≡ ok && all_digits_of (drop k line)
-  all_tested ok h = rw (drop_of_length-le line h) (sym (and-true ok))
-
+-- ---- decoding: characters that are digits
 pub each_digit : (line : List ℕ) (k : ℕ) → all_digits_of line ≡ true → k < length line
     → is_digit_of (get_or line k 0) ≡ true
 each_digit [] k h l = absurd (none k l)
@@ -124,13 +111,6 @@ all_paired line bytes i h =
         some : (n : ℕ) → suc n ≡ 0 → ⊥
         some n e = omega arith
 
--- the invariant of both loops: what is still to be stored from here is the whole from the start; and what is left
--- where none is to be stored
-abbrev pub Paired : List ℕ → List ℕ → List ℕ → ℕ → Type 0
-Paired line lent bytes i =
-    (i ≤ length line / 2) × (length bytes ≡ length lent)
-    × (sets bytes i (bytes_of (drop (2 * i) line)) ≡ sets lent 0 (bytes_of line))
-
 -- ---- encoding: the values of the digits
 pub halved : (bytes reply : List ℕ) (i : ℕ) → i < length bytes
     → sets (set (set reply (2 * i) (get_or bytes i 0 / 16)) (2 * i + 1) (get_or bytes i 0 % 16)) (2 * (i + 1))
@@ -144,25 +124,22 @@ pub all_halved : (bytes reply : List ℕ) (i : ℕ) → length bytes ≤ i
     → reply ≡ sets reply (2 * i) (nibbles_of (drop i bytes))
 all_halved bytes reply i h = rw (drop_of_length-le bytes h)
 
--- ---- encoding: from values to digits, in place, where l was there at first
-module _ (l : List ℕ) (n : ℕ) (fits : n ≤ length l) where
-  -- what stands from here on is as it was
-  pub unread : (reply : List ℕ) (k : ℕ) → drop k reply ≡ drop k l → get_or reply k 0 ≡ get_or l k 0
-  unread reply k e =
-      rw (← add-zero k) (sym (get_or-drop k reply 0 0) ∙ ap (λ (x : List ℕ). get_or x 0 0) e ∙ get_or-drop k l 0 0)
+-- ---- encoding: from values to digits, in place
+-- digits before a place, and from it on what was there
+abbrev pub digits_to : List ℕ → ℕ → List ℕ
+digits_to l i = map digit_of (take i l) ++ drop i l
 
-  pub still : (reply : List ℕ) (k a : ℕ) → drop k reply ≡ drop k l → drop (k + 1) (set reply k a) ≡ drop (k + 1) l
-  still reply k a e =
-      let h : k < k + 1 = omega arith in
-      drop-set-lt (k + 1) reply k a h ∙ sym (drop-drop 1 k reply) ∙ ap (drop 1) e ∙ drop-drop 1 k l
+next_digit : (l : List ℕ) (i : ℕ) → i < length l
+    → set (digits_to l i) i (digit_of (get_or (digits_to l i) i 0)) ≡ digits_to l (suc i)
+next_digit [] i h = absurd (omega arith)
+next_digit (x ∷ l) zero h = refl
+next_digit (x ∷ l) (suc i) h =
+    let k : i < length l = omega arith in
+    ap (λ (r : List ℕ). digit_of x ∷ r) (next_digit l i k)
 
-  pub spelt : (reply : List ℕ) (k : ℕ) → k < n
-      → sets (set reply k (digit_of (get_or l k 0))) (k + 1) (map digit_of (slice (k + 1) n l))
-      ≡ sets reply k (map digit_of (slice k n l))
-  spelt reply k h = rw (add-one k, slice-cons k n l 0 h fits)
-
-  pub all_spelt : (reply : List ℕ) (k : ℕ) → k ≤ n → n ≤ k → reply ≡ sets reply k (map digit_of (slice k n l))
-  all_spelt reply k h g = let e : k ≡ n = omega arith in rw (e, slice_empty n l)
+pub spelt : (l places : List ℕ) (i : ℕ) → i < length l → places ≡ digits_to l i
+    → set places i (digit_of (get_or places i 0)) ≡ digits_to l (i + 1)
+spelt l places i h e = rw (e, add-one i) (next_digit l i h)
 
 -- ---- lengths, and stores from the first place on
 pub length_nibbles : (bytes : List ℕ) → length (nibbles_of bytes) ≡ 2 * length bytes
@@ -184,67 +161,17 @@ pub sets-fill : (xs lent : List ℕ) → length xs ≤ length lent → sets lent
 sets-fill xs lent h =
     let h₀ : 0 + length xs ≤ length lent = omega arith in sets-eq xs lent 0 h₀ ∙ rw (zero-add (length xs))
 
-pub all_stored : (line lent bytes : List ℕ) (i : ℕ) → Paired line lent bytes i → length line / 2 ≤ i
-    → length line / 2 ≤ length lent → bytes ≡ fill (bytes_of line) lent
-all_stored line lent bytes i p h g =
-    all_paired line bytes i h ∙ p.2 ∙ sets-fill (bytes_of line) lent (rw (length_bytes line) g)
+-- stores into all places
+pub sets-all : (xs lent : List ℕ) → length lent ≡ length xs → sets lent 0 xs ≡ xs
+sets-all xs lent h =
+    let h₀ : length xs ≤ length lent = omega arith in
+    let h₁ : length lent ≤ length xs = omega arith in
+    sets-fill xs lent h₀ ∙ rw (drop_of_length-le lent h₁) (append-nil xs)
 
 -- ---- the ways out
-pub none_encoded : (bytes lent : List ℕ) → length lent / 2 < length bytes
-    → record { ok = false; left = lent } ≡ encode_of bytes lent
-unfolding encode_of
-none_encoded bytes lent h = rw (lt-ltb (length lent / 2) (length bytes) h)
+pub encoded : (bytes lent : List ℕ)
+    → map digit_of (nibbles_of bytes) ++ drop (2 * length bytes) lent ≡ fill (hex_of bytes) lent
+encoded bytes lent = rw (spelling bytes, length_hex bytes)
 
--- the values stored first, then their digits
-module _ (bytes lent : List ℕ) (h : length bytes ≤ length lent / 2) where
-  abbrev values : List ℕ
-  values = fill (nibbles_of bytes) lent
-
-  pub enough : 2 * length bytes ≤ length values
-  enough =
-      let m : 2 * length bytes ≤ length lent = omega arith in
-      rw (
-        length-append (nibbles_of bytes) (drop (length (nibbles_of bytes)) lent),
-        length-drop (length (nibbles_of bytes)) lent,
-        length_nibbles bytes,
-      ) (omega arith)
-
-  pub small : ((i : ℕ) → get_or bytes i 0 < 256) → (k : ℕ) → k < 2 * length bytes → get_or values k 0 < 16
-  small b k i =
-      let g : k < length (nibbles_of bytes) = omega (arith, length_nibbles bytes) in
-      rw (get_or-append (nibbles_of bytes) (drop (length (nibbles_of bytes)) lent) 0 k g) (nibble_lt bytes b k)
-
-  shape : fill (map digit_of (take (2 * length bytes) values)) values ≡ fill (hex_of bytes) lent
-  shape =
-      let rest : List ℕ = drop (length (nibbles_of bytes)) lent in
-      rw (
-        take_at (nibbles_of bytes) rest (2 * length bytes) (length_nibbles bytes),
-        ← spelling bytes,
-        length-map (nibbles_of bytes) digit_of,
-        drop_at (nibbles_of bytes) rest (length (nibbles_of bytes)) refl,
-      )
-
-  pub encoded : (reply : List ℕ) → reply ≡ fill (map digit_of (take (2 * length bytes) values)) values
-      → record { ok = true; left = reply } ≡ encode_of bytes lent
-  unfolding encode_of
-  encoded reply e = rw (le-ltb (length lent / 2) (length bytes) h, e, shape)
-
--- ---- the ways out of decoding
-module _ (line lent : List ℕ) where
-  abbrev refused : Bool
-  refused = eqb (length line % 2) 1 || ltb (length lent) (length line / 2)
-
-  pub none_decoded : refused ≡ true → record { ok = false; left = lent } ≡ decode_of line lent
-  unfolding decode_of
-  none_decoded h = rw h
-
-  module _ (h : refused ≡ false) where
-    pub fits : length line / 2 ≤ length lent
-    fits =
-        ltb-false (length lent) (length line / 2)
-        (or_right (eqb (length line % 2) 1) (ltb (length lent) (length line / 2)) h)
-
-    pub decoded : (ok : Bool) (bytes : List ℕ) → ok ≡ all_digits_of line → bytes ≡ fill (bytes_of line) lent
-        → record { ok = ok; left = bytes } ≡ decode_of line lent
-    unfolding decode_of
-    decoded ok bytes e f = rw (h, e, f)
+pub decoded : (line lent : List ℕ) → bytes_of line ++ drop (length line / 2) lent ≡ fill (bytes_of line) lent
+decoded line lent = rw (length_bytes line)

@@ -11,26 +11,11 @@ ghost use Rattle.hex_bytes.specs.Steps.{nibbles_of};
 pub fn value(c: u8) -> u8
     ensures { result ≡ value_of c }
 {
-    if (48 <= c) & (c <= 57) {
-        return c - 48;
+    match c {
+        b'0'..=b'9' => c - b'0',
+        b'A'..=b'F' => c - b'A' + 10,
+        _ => 0,
     }
-    if (65 <= c) & (c <= 70) {
-        return c - 55;
-    }
-    0
-}
-
-// The sum, less 256 where it is as much.
-fn sum(x: u8, y: u8) -> u8
-    ensures { result ≡ (x + y) % 0x100 }
-{
-    (((x as u16) + (y as u16)) % 0x100) as u8
-}
-
-fn larger(x: u8, y: u8) -> u8
-    ensures { result ≡ cond (ltb x y) y x }
-{
-    if x < y { y } else { x }
 }
 
 // Less 48, round 256, a digit is at most 22, and less 65 at most 248; no other character is both. So the largest of
@@ -38,12 +23,11 @@ fn larger(x: u8, y: u8) -> u8
 fn all_digits(line: &[u8]) -> bool
     ensures { result ≡ all_digits_of line.now }
 {
-    let mut less_48 = 0;
-    let mut less_65 = 0;
-    for k in 0..line.len() {
-        let c = line[k];
-        less_48 = larger(less_48, sum(c, 208));
-        less_65 = larger(less_65, sum(c, 191));
+    let mut less_48 = 0u8;
+    let mut less_65 = 0u8;
+    for &c in line {
+        less_48 = less_48.max(c.wrapping_sub(48));
+        less_65 = less_65.max(c.wrapping_sub(65));
     }
     (less_48 <= 22) & (less_65 <= 248)
 }
@@ -69,26 +53,25 @@ fn byte(digits: u16) -> u8
     ((values + values % 0x10 * 0x1000) / 0x100) as u8
 }
 
-// The bytes of digits, into the first places.
+// The bytes of digits.
 fn pairs(line: &[u8], bytes: &mut [u8])
-    requires line_value { all_digits_of line.now ≡ true }
-    requires line_in_bounds { length line.now / 2 ≤ length bytes.old }
-    ensures { bytes.new ≡ fill (bytes_of line.now) bytes.old }
+    requires digits { all_digits_of line.now ≡ true }
+    requires places { length bytes.old ≡ length line.now / 2 }
+    ensures { bytes.new ≡ bytes_of line.now }
 {
-    for i in 0..line.len() / 2 {
-        let at = 2 * i;
-        let part = &line[at..];
-        bytes[i] = byte(side_by_side(part[0], part[1]));
+    for (i, place) in bytes.iter_mut().enumerate() {
+        let part = &line[2 * i..];
+        *place = byte(side_by_side(part[0], part[1]));
     }
 }
 
-// The bytes of any characters, into the first places. No line that is answered comes here.
+// The bytes of any characters. No line that is answered comes here.
 fn any_pairs(line: &[u8], bytes: &mut [u8])
-    requires { length line.now / 2 ≤ length bytes.old }
-    ensures { bytes.new ≡ fill (bytes_of line.now) bytes.old }
+    requires { length bytes.old ≡ length line.now / 2 }
+    ensures { bytes.new ≡ bytes_of line.now }
 {
-    for i in 0..line.len() / 2 {
-        bytes[i] = 16 * value(line[2 * i]) + value(line[2 * i + 1]);
+    for (i, place) in bytes.iter_mut().enumerate() {
+        *place = 16 * value(line[2 * i]) + value(line[2 * i + 1]);
     }
 }
 
@@ -108,6 +91,7 @@ fn digit(n: u8) -> u8
     n + 48 + gap(n)
 }
 
+#[tactic(auto, using(crate::proofs::Turns::decoded), unfolding(crate::specs::Hex::decode_of))]
 pub fn decode(line: &[u8], bytes: &mut [u8]) -> bool
     ensures { record { ok = result; left = bytes.new } ≡ decode_of line.now bytes.old }
 {
@@ -115,38 +99,37 @@ pub fn decode(line: &[u8], bytes: &mut [u8]) -> bool
     if (n % 2 == 1) | (bytes.len() < n / 2) {
         return false;
     }
+    let places = &mut bytes[..n / 2];
     if all_digits(line) {
-        pairs(line, bytes);
+        pairs(line, places);
         return true;
     }
-    any_pairs(line, bytes);
+    any_pairs(line, places);
     false
 }
 
-// The values of the bytes' digits, into the first places.
-fn nibbles(bytes: &[u8], reply: &mut [u8])
-    requires { 2 * length bytes.now ≤ length reply.old }
-    ensures { reply.new ≡ fill (nibbles_of bytes.now) reply.old }
+// The values of the bytes' digits.
+fn nibbles(bytes: &[u8], values: &mut [u8])
+    requires { length values.old ≡ 2 * length bytes.now }
+    ensures { values.new ≡ nibbles_of bytes.now }
 {
-    for i in 0..bytes.len() {
-        let b = bytes[i];
-        reply[2 * i] = b / 16;
-        reply[2 * i + 1] = b % 16;
+    for (i, &b) in bytes.iter().enumerate() {
+        values[2 * i] = b / 16;
+        values[2 * i + 1] = b % 16;
     }
 }
 
-// The first n places, from values to digits.
-fn spell(reply: &mut [u8], n: usize)
-    requires n_in_bounds { n ≤ length reply.old }
-    requires by_index { (k : ℕ) → k < n → get_or reply.old k 0 < 16 }
-    ensures { reply.new ≡ fill (map digit_of (take n reply.old)) reply.old }
+// From values to digits.
+fn spell(places: &mut [u8])
+    requires { (k : ℕ) → k < length places.old → get_or places.old k 0 < 16 }
+    ensures { places.new ≡ map digit_of places.old }
 {
-    for k in 0..n {
-        let x = reply[k];
-        reply[k] = digit(x);
+    for place in places.iter_mut() {
+        *place = digit(*place);
     }
 }
 
+#[tactic(auto, using(crate::proofs::Turns::encoded, crate::proofs::Turns::nibble_lt), unfolding(crate::specs::Hex::encode_of))]
 pub fn encode(bytes: &[u8], reply: &mut [u8]) -> bool
     ensures { record { ok = result; left = reply.new }
         ≡ encode_of bytes.now reply.old }
@@ -155,7 +138,8 @@ pub fn encode(bytes: &[u8], reply: &mut [u8]) -> bool
     if reply.len() / 2 < n {
         return false;
     }
-    nibbles(bytes, reply);
-    spell(reply, 2 * n);
+    let places = &mut reply[..2 * n];
+    nibbles(bytes, places);
+    spell(places);
     true
 }

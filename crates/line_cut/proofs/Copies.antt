@@ -1,31 +1,12 @@
 -- Stores from one place on, a turn at a time. Assumes nothing.
 use mathlib.Core.Path.{◌≡◌, ap, sym, ◌∙◌}
 use mathlib.Core.List.{List, [], ◌∷◌, ◌++◌}
-use Prim.Native.Nat.{ℕ, suc, ◌+◌, ◌≤◌, ◌<◌, min}
-use native.Mathlib.Nat.{add-zero, add-suc, suc-add, min-eq_left, min-eq_right}
-use native.Mathlib.Numerals.{add-one}
+use Prim.Native.Nat.{ℕ, suc, ◌+◌, ◌≤◌}
+use native.Mathlib.Nat.{add-zero, add-suc, suc-add}
 use native.Mathlib.Omega.{arith}
-use lib.ListN.{length, get_or, take, drop, set, length-append, drop_of_length-le}
-use lib.Seq.{drop-cons, sets, sets-eq, take_at, drop_at, length-take-le}
+use lib.ListN.{length, take, drop, set, length-append}
+use lib.Seq.{sets, sets-eq, take_at, drop_at, length-take-le}
 use Rattle.line_cut.specs.Cut.{Put}
-
--- ---- the loop of `copy`: what is still to be stored from here is the whole from the start
-pub none_copied : (text out : List ℕ) (at : ℕ) → sets out (at + 0) (drop 0 text) ≡ sets out at text
-none_copied text out at = rw (add-zero at)
-
-pub copied : (text out : List ℕ) (at i : ℕ) → i < length text
-    → sets (set out (at + i) (get_or text i 0)) (at + (i + 1)) (drop (i + 1) text) ≡ sets out (at + i) (drop i text)
-copied text out at i h = rw (add-one i, add-suc at i, drop-cons text i 0 h)
-
-pub all_copied : (text out : List ℕ) (at i : ℕ) → length text ≤ i → out ≡ sets out (at + i) (drop i text)
-all_copied text out at i h = rw (drop_of_length-le text h)
-
--- ---- `least`
-pub least_left : (a b : ℕ) → a ≤ b → a ≡ min a b
-least_left a b h = sym (min-eq_left h)
-
-pub least_right : (a b : ℕ) → b < a → b ≡ min a b
-least_right a b h = let k : b ≤ a = omega arith in sym (min-eq_right k)
 
 -- ---- one store after the other
 pub sets_append : (out : List ℕ) (at : ℕ) (xs ys : List ℕ)

@@ -1,115 +1,62 @@
--- The search for a line feed, thirty-two characters at once, eight or one. Assumes nothing.
+-- Characters before the first line feed, passed part by part. Assumes nothing.
 use mathlib.Core.Path.{◌≡◌, refl, ap, sym, ◌∙◌}
-use mathlib.Core.Bool.{Bool, true, false, cond, not, ◌&&◌, true≢false, and_assoc, and-true}
-use mathlib.Core.List.{List, [], ◌∷◌}
-use Prim.Native.Nat.{ℕ, zero, suc, ◌+◌, ◌≤◌, ◌<◌}
-use native.Mathlib.Nat.{add-zero, add-suc, suc-add, zero-add, add_assoc}
-use native.Mathlib.Numerals.{add-one}
+use mathlib.Core.Bool.{Bool, true, false, cond, not, ◌&&◌, true≢false}
+use mathlib.Core.List.{List, [], ◌∷◌, ◌++◌}
+use Prim.Native.Nat.{ℕ, suc, ◌+◌, ◌≤◌}
+use native.Mathlib.Nat.{add-zero, zero-add, suc-add}
 use native.Mathlib.Omega.{arith}
 use lib.Dec.{eqb}
-use lib.ListN.{length, get_or, drop, drop_of_length-le, length-drop}
-use lib.Seq.{drop-cons, drop-drop}
-use borrow.Author.Tests.{eq-eqb, ne_eqb}
-use Rattle.line_cut.specs.Cut.{line_length, no_feed_of}
+use lib.ListN.{length, take, drop, take-append-drop, length-append}
+use Rattle.std.specs.List.{fold, position_from}
+use Rattle.std.specs.Prelude.{Some, unwrap_or}
+use Rattle.std.proofs.lemmas.List.Folds.{fold_stays}
+use Rattle.line_cut.specs.Cut.{line_length}
 
--- ---- eight characters
-module _ (input : List ℕ) (i : ℕ) where
-  abbrev other : ℕ → Bool
-  other k = not (eqb (get_or input (i + k) 0) 10)
+abbrev pub none_so_far : Bool → ℕ → Bool
+none_so_far none c = none && not (eqb c 10)
 
-  one : (n k : ℕ) → i + k < length input
-      → no_feed_of (suc n) (drop (i + k) input) ≡ other k && no_feed_of n (drop (i + suc k) input)
-  one n k h = rw (drop-cons input (i + k) 0 h, add-suc i k)
-
-  pub eight : i + 8 ≤ length input
-      → ((((((not (eqb (get_or input i 0) 10) && other 1) && other 2) && other 3) && other 4) && other 5) && other 6)
-      && other 7
-      ≡ no_feed_of 8 (drop i input)
-  eight h =
-      let first : Bool = not (eqb (get_or input i 0) 10) in
-      let l : i < length input = omega arith in
-      let zeroth : no_feed_of 8 (drop i input) ≡ first && no_feed_of 7 (drop (i + 1) input) =
-      rw (drop-cons input i 0 l, add-one i) in
-      simp and_assoc
-      (sym
-      (zeroth
-      ∙ ap (λ (b : Bool). first && b)
-      (one 6 1 (omega arith)
-      ∙ ap (λ (b : Bool). other 1 && b)
-      (one 5 2 (omega arith)
-      ∙ ap (λ (b : Bool). other 2 && b)
-      (one 4 3 (omega arith)
-      ∙ ap (λ (b : Bool). other 3 && b)
-      (one 3 4 (omega arith)
-      ∙ ap (λ (b : Bool). other 4 && b)
-      (one 2 5 (omega arith)
-      ∙ ap (λ (b : Bool). other 5 && b)
-      (one 1 6 (omega arith)
-      ∙ ap (λ (b : Bool). other 6 && b) (one 0 7 (omega arith) ∙ and-true (other 7))))))))))
-
--- ---- thirty-two: four times eight
--- none among the first of a list and none among the next
-both : (n m : ℕ) (l : List ℕ) → no_feed_of (n + m) l ≡ no_feed_of n l && no_feed_of m (drop n l)
-both zero m l = rw (zero-add m)
-both (suc n) m [] = rw (suc-add n m) (sym (nothing m))
+-- parts without a line feed
+pub past : (part after : List ℕ) → fold none_so_far true part ≡ true
+    → line_length (part ++ after) ≡ length part + line_length after
+past [] after h = sym (zero-add (line_length after))
+past (c ∷ part) after h = by (eqb c 10) (past part after) h
   where
-    nothing : (m : ℕ) → no_feed_of m [] ≡ true
-    nothing zero = refl
-    nothing (suc m) = refl
-both (suc n) m (c ∷ l) =
-    rw (suc-add n m, both n m l) (sym (and_assoc (not (eqb c 10)) (no_feed_of n l) (no_feed_of m (drop n l))))
+    by : (b : Bool) → (fold none_so_far true part ≡ true → line_length (part ++ after) ≡ length part + line_length after)
+        → fold none_so_far (not b) part ≡ true
+        → cond b 0 (suc (line_length (part ++ after))) ≡ suc (length part) + line_length after
+    by true next e = absurd (true≢false (sym e ∙ fold_stays none_so_far false (λ x. refl) part))
+    by false next e = ap suc (next e) ∙ sym (suc-add (length part) (line_length after))
 
-module _ (input : List ℕ) (i : ℕ) where
-  abbrev none : ℕ → Bool
-  none k = no_feed_of 8 (drop k input)
+pub passed : (n : ℕ) (rest part after : List ℕ) (none : Bool) → (part ≡ take n rest) × (after ≡ drop n rest)
+    → none ≡ fold none_so_far true part → none ≡ true
+    → length rest + line_length after ≡ length after + line_length rest
+passed n rest part after none e h t =
+    let whole : part ++ after ≡ rest = rw (e.0, e.1) (take-append-drop n rest) in
+    let l = past part after (sym h ∙ t) in
+    rw (← whole, length-append part after, l) (omega arith)
 
-  eight_more : (n : ℕ) → no_feed_of (n + 8) (drop i input) ≡ no_feed_of n (drop i input) && none (i + n)
-  eight_more n =
-      both n 8 (drop i input) ∙ ap (λ (l : List ℕ). no_feed_of n (drop i input) && no_feed_of 8 l) (drop-drop n i input)
-
-  pub thirty_two : ((none i && none (i + 8)) && none (i + 16)) && none (i + 24) ≡ no_feed_of 32 (drop i input)
-  thirty_two =
-      sym
-      (eight_more 24
-      ∙ ap (λ (b : Bool). b && none (i + 24)) (eight_more 16 ∙ ap (λ (b : Bool). b && none (i + 16)) (eight_more 8)))
-
--- ---- where there is none
-skip : (n : ℕ) (input : List ℕ) → n ≤ length input → no_feed_of n input ≡ true
-    → line_length input ≡ n + line_length (drop n input)
-skip zero input h e = sym (zero-add (line_length input))
-skip (suc n) [] h e = absurd (none n h)
+-- the first line feed, or the end
+feed_from : (input : List ℕ) (k : ℕ)
+    → unwrap_or (position_from (λ c. eqb c 10) k input) (k + length input) ≡ k + line_length input
+feed_from [] k = refl
+feed_from (c ∷ input) k = by (eqb c 10) (feed_from input (k + 1))
   where
-    none : (n : ℕ) → suc n ≤ 0 → ⊥
-    none n h = omega arith
-skip (suc n) (c ∷ input) h e = by (eqb c 10) e (skip n input (less n (length input) h))
+    by : (b : Bool)
+        → unwrap_or (position_from (λ c. eqb c 10) (k + 1) input) (k + 1 + length input) ≡ k + 1 + line_length input
+        → unwrap_or (cond b (Some k) (position_from (λ c. eqb c 10) (k + 1) input)) (k + suc (length input))
+        ≡ k + cond b 0 (suc (line_length input))
+    by true next = sym (add-zero k)
+    by false next =
+        let e : k + suc (length input) ≡ k + 1 + length input = omega arith in
+        rw e (next ∙ omega arith)
+
+pub at_feed : (input : List ℕ) → unwrap_or (position_from (λ c. eqb c 10) 0 input) (length input) ≡ line_length input
+at_feed input = rw (← zero-add (length input)) (feed_from input 0 ∙ zero-add (line_length input))
+
+pub feed_le : (input : List ℕ) → line_length input ≤ length input
+feed_le [] = omega arith
+feed_le (c ∷ input) = by (eqb c 10) (feed_le input)
   where
-    less : (n m : ℕ) → suc n ≤ suc m → n ≤ m
-    less n m h = omega arith
-
-    by : (b : Bool) → not b && no_feed_of n input ≡ true
-        → (no_feed_of n input ≡ true → line_length input ≡ n + line_length (drop n input))
-        → cond b 0 (suc (line_length input)) ≡ suc n + line_length (drop n input)
-    by true e next = absurd (true≢false (sym e))
-    by false e next = ap suc (next e) ∙ sym (suc-add n (line_length (drop n input)))
-
--- ---- the search: what is left to pass from here is the whole from the start
-module _ (input : List ℕ) (i : ℕ) where
-  pub at_feed : i < length input → get_or input i 0 ≡ 10 → i ≡ i + line_length (drop i input)
-  at_feed h e = rw (drop-cons input i 0 h, eq-eqb (get_or input i 0) 10 e) (sym (add-zero i))
-
-  pub past : i < length input → (get_or input i 0 ≡ 10 → ⊥)
-      → i + 1 + line_length (drop (i + 1) input) ≡ i + line_length (drop i input)
-  past h e =
-      let n : ℕ = line_length (drop (suc i) input) in
-      rw (add-one i, drop-cons input i 0 h, ne_eqb (get_or input i 0) 10 e) (suc-add i n ∙ sym (add-suc i n))
-
-  pub at_end : length input ≤ i → i ≡ i + line_length (drop i input)
-  at_end h = rw (drop_of_length-le input h) (sym (add-zero i))
-
-  pub past_none : (n : ℕ) → i + n ≤ length input → no_feed_of n (drop i input) ≡ true
-      → i + n + line_length (drop (i + n) input) ≡ i + line_length (drop i input)
-  past_none n h e =
-      let l : n ≤ length (drop i input) = rw (length-drop i input) (omega arith) in
-      let s : line_length (drop i input) ≡ n + line_length (drop (i + n) input) =
-      skip n (drop i input) l e ∙ ap (λ (x : List ℕ). n + line_length x) (drop-drop n i input) in
-      rw s (add_assoc i n (line_length (drop (i + n) input)))
+    by : (b : Bool) → line_length input ≤ length input → cond b 0 (suc (line_length input)) ≤ suc (length input)
+    by true h = omega arith
+    by false h = omega arith

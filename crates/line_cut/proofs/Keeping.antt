@@ -5,7 +5,9 @@ use Prim.Native.Nat.{ℕ, ◌+◌, ◌-◌, ◌≤◌, min}
 use native.Mathlib.Omega.{arith, min_cases}
 use lib.ListN.{length, take, drop, length-take, length-append}
 use lib.Seq.{sets, sets-eq, length-take-le, take-append-add, take_all, take_at}
+use borrow.Rule.Slice.PartMut.{put_mid}
 use Rattle.hex_bytes.specs.Hex.{fill}
+use Rattle.hex_bytes.proofs.Lent.{mid-sets}
 use Rattle.line_cut.specs.Cut.{lengthened, Fills}
 
 -- a list is taken whole where it is shorter
@@ -54,12 +56,15 @@ module _ (kept part : List ℕ) (count begun n : ℕ) (eb : begun ≡ min count 
   unfolding text
   stored = sets-eq (take n part) kept begun kept-fits ∙ rw (text-length, taken)
 
-  pub keeps : (kept' : List ℕ) → kept' ≡ sets kept begun (take n part)
-      → Fills kept (lengthened kept count part) (begun + n) kept'
-  keeps kept' ek =
+  pub keeps : (text' : List ℕ) → text' ≡ take n part
+      → Fills kept (lengthened kept count part) (begun + n) (put_mid begun (begun + n - begun) kept text')
+  keeps text' et =
       record {
         count_is = sym text-length ∙ ap length text_is;
-        out_is = ek ∙ stored ∙ ap (λ (l : List ℕ). fill l kept) text_is;
+        out_is =
+            mid-sets kept text' (take n part) begun (begun + n - begun) et (rw taken (omega arith)) (omega arith)
+            ∙ stored
+            ∙ ap (λ (l : List ℕ). fill l kept) text_is;
       }
 
 -- ---- what was kept

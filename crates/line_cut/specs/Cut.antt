@@ -1,5 +1,5 @@
 -- The lines of an input, a line that goes on, and a text in lent places. Definitions only.
-use Rattle.std.specs.Prelude.{Bool, true, cond, not, ◌&&◌, List, [], ◌∷◌, ◌++◌, ◌≡◌, ℕ, zero, suc, ◌+◌, length, take}
+use Rattle.std.specs.Prelude.{cond, List, [], ◌∷◌, ◌++◌, ◌≡◌, ℕ, suc, ◌+◌, length, take}
 use Rattle.std.specs.Prelude.{eqb}
 use Rattle.std.proofs.lemmas.List.Edits.{sets}
 use Rattle.hex_bytes.specs.Hex.{fill}
@@ -19,12 +19,6 @@ lines_from line (c ∷ input) = cond (eqb c 10) (line ∷ lines_from [] input) (
 abbrev pub line_length : List ℕ → ℕ
 line_length [] = 0
 line_length (c ∷ input) = cond (eqb c 10) 0 (suc (line_length input))
-
--- whether none of the first n characters is a line feed
-abbrev pub no_feed_of : ℕ → List ℕ → Bool
-no_feed_of zero input = true
-no_feed_of (suc n) [] = true
-no_feed_of (suc n) (c ∷ input) = not (eqb c 10) && no_feed_of n input
 
 -- as much of a line as there are places: its first `count` characters stand there, and `part` goes on
 abbrev pub lengthened : List ℕ → ℕ → List ℕ → List ℕ

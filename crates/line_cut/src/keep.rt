@@ -2,12 +2,10 @@
 ghost use Rattle.std.specs.Prelude.{◌≡◌, min};
 ghost use Rattle.line_cut.specs.Cut.{lengthened, Fills};
 
-use crate::copy::copy;
-
 pub fn least(a: usize, b: usize) -> usize
     ensures { result ≡ min a b }
 {
-    if a <= b { a } else { b }
+    a.min(b)
 }
 
 // Lengthens the line by `part`, as far as there are places.
@@ -16,6 +14,6 @@ pub fn keep(kept: &mut [u8], count: usize, part: &[u8]) -> usize
 {
     let begun = least(count, kept.len());
     let n = least(kept.len() - begun, part.len());
-    copy(&part[..n], kept, begun);
+    kept[begun..begun + n].copy_from_slice(&part[..n]);
     begun + n
 }

@@ -2,6 +2,5 @@
 // end in another. Nothing here knows what a line is answered, nor how long one is.
 #![tactic(auto)]
 
-mod copy;
 pub mod keep;
 pub mod line_feed;

@@ -1,52 +1,45 @@
 // Where a line ends.
-ghost use Rattle.std.specs.Prelude.{◌≡◌, ◌+◌, ◌≤◌, length, drop};
-ghost use Rattle.line_cut.specs.Cut.{line_length, no_feed_of};
+ghost use Rattle.std.specs.Prelude.{◌≡◌, ◌+◌, ◌≤◌, ◌<◌, length, drop, fold, ◌&&◌, not, eqb, true, ◌^◌};
+ghost use Rattle.std.specs.List.{position_from};
+ghost use Rattle.line_cut.specs.Cut.{line_length};
 
-// Whether none of the eight characters from `i` on is a line feed. All are tested, so that it is done at once.
-fn no_feed(input: &[u8], i: usize) -> bool
-    requires { i + 8 ≤ length input.now }
-    ensures { result ≡ no_feed_of 8 (drop i input.now) }
+// Whether none of the characters is a line feed. All are tested, so that it is done at once.
+fn no_feed<const N: usize>(part: &[u8; N]) -> bool
+    ensures { result ≡ fold (λ none c. none && not (eqb c 10)) true part.now }
 {
-    (input[i] != b'\n')
-        & (input[i + 1] != b'\n')
-        & (input[i + 2] != b'\n')
-        & (input[i + 3] != b'\n')
-        & (input[i + 4] != b'\n')
-        & (input[i + 5] != b'\n')
-        & (input[i + 6] != b'\n')
-        & (input[i + 7] != b'\n')
+    part.iter().fold(true, |none, &c| none & (c != b'\n'))
 }
 
-// The same of thirty-two.
-fn no_feed_32(input: &[u8], i: usize) -> bool
-    requires { i + 32 ≤ length input.now }
-    ensures { result ≡ no_feed_of 32 (drop i input.now) }
+// What is left after the first parts of N characters, as far as these have no line feed.
+fn pass<const N: usize>(input: &[u8]) -> &[u8]
+    requires some { 0 < N }
+    requires few { N < 2 ^ 63 }
+    ensures fewer { length result.now ≤ length input.now }
+    ensures passed { length input.now + line_length result.now ≡ length result.now + line_length input.now }
 {
-    no_feed(input, i) & no_feed(input, i + 8) & no_feed(input, i + 16) & no_feed(input, i + 24)
+    let mut rest = input;
+    while let Some((part, after)) = rest.split_first_chunk::<N>() {
+        if !no_feed(part) {
+            break;
+        }
+        rest = after;
+    }
+    rest
+}
+
+fn first_feed(input: &[u8]) -> Option<usize>
+    ensures { result ≡ position_from (λ c. eqb c 10) 0 input.now }
+{
+    input.iter().position(|&c| c == b'\n')
 }
 
 // The place of the first line feed from `from` on; where there is none, the end.
 pub fn find(input: &[u8], from: usize) -> usize
     ensures { result ≡ from + line_length (drop from input.now) }
 {
-    let mut i = from;
-    while i < input.len() {
-        if 32 <= input.len() - i {
-            if no_feed_32(input, i) {
-                i += 32;
-                continue;
-            }
-        }
-        if 8 <= input.len() - i {
-            if no_feed(input, i) {
-                i += 8;
-                continue;
-            }
-        }
-        if input[i] == b'\n' {
-            return i;
-        }
-        i += 1;
+    if input.len() < from {
+        return from;
     }
-    i
+    let rest = pass::<8>(pass::<32>(&input[from..]));
+    input.len() - rest.len() + first_feed(rest).unwrap_or(rest.len())
 }

@@ -1,11 +1,11 @@
 -- `pairs` stores `bytes_of`. Assumes nothing.
-use Prim.Native.Nat.{◌/◌, ◌-◌}
-use lib.ListN.{length}
-use Rattle.hex_bytes.proofs.Turns.{Paired}
+-- The invariant: what is still to be stored from here is the whole.
+use Prim.Native.Nat.{◌*◌}
+use mathlib.Core.Path.{◌≡◌}
+use lib.ListN.{drop}
+use lib.Seq.{sets}
+use Rattle.hex_bytes.specs.Hex.{bytes_of}
 use Rattle.hex_bytes.proofs.pairs.Given as goal
 
 abbrev pub invariant-loop-i : goal.invariant-loop-i
-invariant-loop-i l = Paired l.line l.initial.bytes l.bytes l.i
-
-abbrev pub decreases-loop-i : goal.decreases-loop-i
-decreases-loop-i l = length l.line / 2 - l.i
+invariant-loop-i l = sets l.bytes l.i (bytes_of (drop (2 * l.i) l.line)) ≡ bytes_of l.line

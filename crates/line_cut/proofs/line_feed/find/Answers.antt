@@ -1,30 +1,24 @@
--- `find` passes the characters before the first line feed.
--- The invariant: what is left to pass from here is the whole from the start. Assumes nothing.
-use mathlib.Core.Path.{sym, ◌∙◌}
+-- `find` finds the first line feed. Assumes nothing.
+use mathlib.Core.Path.{◌≡◌, ap, ◌∙◌}
+use Prim.Native.Nat.{◌-◌}
 use native.Mathlib.Omega.{arith}
-use Rattle.line_cut.proofs.Feeds.{at_feed, past, past_none, at_end}
+use lib.ListN.{length, take, drop, length-drop}
+use lib.Seq.{take_all}
+use Rattle.line_cut.specs.Cut.{line_length}
+use Rattle.line_cut.proofs.Feeds.{at_feed, feed_le}
 use Rattle.line_cut.proofs.line_feed.find.Goals as goal
 
-pub loop-i-preserved-then-no_feed_32 : goal.loop-i-preserved-then-no_feed_32
-loop-i-preserved-then-no_feed_32 c =
-    past_none c.args.input.now c.loop-i.i 32 (omega arith)
-    (sym c.no_feed_32.ensures ∙ c.if-no_feed_32.true)
-    ∙ c.loop-i.invariant
-
-pub loop-i-preserved-then-no_feed : goal.loop-i-preserved-then-no_feed
-loop-i-preserved-then-no_feed c =
-    past_none c.args.input.now c.loop-i.i 8 (omega arith)
-    (sym c.no_feed.ensures ∙ c.if-no_feed.true)
-    ∙ c.loop-i.invariant
-
-pub returns-then-input-i-eq10 : goal.returns-then-input-i-eq10
-returns-then-input-i-eq10 c =
-    at_feed c.args.input.now c.loop-i.i (omega arith) c.if-input-i-eq10.true ∙ c.loop-i.invariant
-
-pub loop-i-preserved : goal.loop-i-preserved
-loop-i-preserved c =
-    past c.args.input.now c.loop-i.i (omega arith) c.if-input-i-eq10.false ∙ c.loop-i.invariant
+pub overflow_add-result : goal.overflow_add-result
+overflow_add-result c =
+    let r = c.pass-rest.result.now in
+    let e : c.unwrap_or.result ≡ line_length r = c.unwrap_or.ensures ∙ rw c.first_feed.ensures (at_feed r) in
+    omega (arith, feed_le r)
 
 pub returns : goal.returns
 returns c =
-    at_end c.args.input.now c.loop-i.i (omega arith) ∙ c.loop-i.invariant
+    let r = c.pass-rest.result.now in
+    let e : c.unwrap_or.result ≡ line_length r = c.unwrap_or.ensures ∙ rw c.first_feed.ensures (at_feed r) in
+    let all : take (length c.args.input.now - c.args.from) (drop c.args.from c.args.input.now)
+    ≡ drop c.args.from c.args.input.now =
+    take_all _ (drop c.args.from c.args.input.now) (rw length-drop (omega arith)) in
+    omega (arith, ap line_length all)
