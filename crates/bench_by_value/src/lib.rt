@@ -7,7 +7,7 @@ ghost use Rattle.row.specs.Row.{numbers_in};
 ghost use Rattle.bench_labels.specs.Lent.{check_lent_of};
 
 use bench_labels::answer_number;
-use labels::start_labels;
+use labels::{ControlSigns, ReachedLimits, start_labels};
 use profile::Profile;
 use profile::in_place::Verdict;
 use row::NUMBERS;
@@ -29,8 +29,8 @@ pub extern "C" fn bench_check_by_value(
 {
     let profile = Profile::from_row(*x, start_labels());
     let checked = profile.check(
-        labels::signs(signs),
-        labels::label(label),
+        ControlSigns::from(signs),
+        ReachedLimits::from(label),
         set_limits,
         jf,
         v_max,

@@ -8,7 +8,7 @@ ghost use Rattle.row.specs.Row.{numbers_in};
 ghost use Rattle.bench_labels.specs.Lent.{check_lent_of};
 
 use bench_labels::answer_number;
-use labels::start_labels;
+use labels::{ControlSigns, ReachedLimits, start_labels};
 use row::NUMBERS;
 
 #[unsafe(no_mangle)]
@@ -36,8 +36,8 @@ pub extern "C" fn bench_check_in_place(
     let answer = profile::in_place::check(
         x,
         start_labels(),
-        labels::signs(signs),
-        labels::label(label),
+        ControlSigns::from(signs),
+        ReachedLimits::from(label),
         set_limits,
         jf,
         v_max,

@@ -4,7 +4,6 @@
 ghost use Rattle.std.specs.Prelude.{◌≡◌, cond, ◌<◌};
 ghost use Rattle.bench_labels.specs.Codes.{answer_number_of};
 
-use labels::{direction_number, label_number, signs_number};
 use profile::in_place::Verdict;
 
 fn verdict_number(ok: bool) -> u32
@@ -18,11 +17,8 @@ pub fn answer_number(answer: Verdict) -> u32
     ensures { result ≡ answer_number_of answer }
 {
     let labels = answer.labels;
-    let limits = labels.limits;
-    let direction = labels.direction;
-    let control_signs = labels.control_signs;
     verdict_number(answer.ok)
-        + 2 * (direction_number(direction) as u32)
-        + 4 * (signs_number(control_signs) as u32)
-        + 8 * (label_number(limits) as u32)
+        + 2 * u32::from(u8::from(labels.direction))
+        + 4 * u32::from(u8::from(labels.control_signs))
+        + 8 * u32::from(u8::from(labels.limits))
 }

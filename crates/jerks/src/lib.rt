@@ -2,7 +2,6 @@
 #![tactic(auto)]
 
 ghost use Rattle.std.specs.Prelude.{◌≡◌};
-ghost use Rattle.labels.specs.Labels.{signs_number_of};
 ghost use Rattle.jerks.specs.Jerks.{pattern_of, signed_of, jerk_of, jerks_of};
 
 use float::pick;
@@ -36,22 +35,11 @@ const SIGNS: [[Sign; 7]; 2] = [
     ],
 ];
 
-// The row of a pattern. A usize from the first: by way of a u8 the compiler loses sight of the two rows, and tests each
-// sign by itself.
-fn index(control_signs: ControlSigns) -> usize
-    ensures { result ≡ signs_number_of control_signs }
-{
-    match control_signs {
-        ControlSigns::UDDU => 0,
-        ControlSigns::UDUD => 1,
-    }
-}
-
 // The seven signs of a pattern.
 fn pattern(control_signs: ControlSigns) -> [Sign; 7]
     ensures { result ≡ pattern_of control_signs }
 {
-    SIGNS[index(control_signs) % 2]
+    SIGNS[control_signs as usize]
 }
 
 fn signed(s: Sign, jf: f64) -> f64
@@ -71,24 +59,18 @@ fn jerk(s: Sign, t: f64, jf: f64) -> f64
     pick(t > 0.0, signed(s, jf), 0.0)
 }
 
+#[tactic(auto, unfolding(crate::specs::Jerks::jerks_of))]
 pub fn jerks(control_signs: ControlSigns, t: [f64; 7], jf: f64) -> [f64; 7]
     ensures { result ≡ jerks_of control_signs t jf }
 {
     let row = pattern(control_signs);
-    let s0 = row[0];
-    let s1 = row[1];
-    let s2 = row[2];
-    let s3 = row[3];
-    let s4 = row[4];
-    let s5 = row[5];
-    let s6 = row[6];
     [
-        jerk(s0, t[0], jf),
-        jerk(s1, t[1], jf),
-        jerk(s2, t[2], jf),
-        jerk(s3, t[3], jf),
-        jerk(s4, t[4], jf),
-        jerk(s5, t[5], jf),
-        jerk(s6, t[6], jf),
+        jerk(row[0], t[0], jf),
+        jerk(row[1], t[1], jf),
+        jerk(row[2], t[2], jf),
+        jerk(row[3], t[3], jf),
+        jerk(row[4], t[4], jf),
+        jerk(row[5], t[5], jf),
+        jerk(row[6], t[6], jf),
     ]
 }

@@ -1,3 +1,2 @@
--- The labels and the sign patterns, case by case; tests in a row.
-pub mod ByLabel
+-- Tests in a row.
 pub mod Failing

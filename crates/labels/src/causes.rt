@@ -20,36 +20,24 @@ pub enum Cause {
     NoRoot,
 }
 
-pub fn cause_number(cause: Cause) -> u8
-    ensures { result ≡ cause_number_of cause }
-{
-    match cause {
-        Cause::Yes => 0,
-        Cause::NegativeTime => 1,
-        Cause::T3 => 2,
-        Cause::T1 => 3,
-        Cause::T5 => 4,
-        Cause::Total => 5,
-        Cause::VelocityAtZero => 6,
-        Cause::EndPosition => 7,
-        Cause::EndVelocity => 8,
-        Cause::EndAcceleration => 9,
-        Cause::AccelerationLimit => 10,
-        Cause::VelocityLimit => 11,
-        Cause::NoCall => 12,
-        Cause::NoRoot => 13,
+// Document 02's numbers are those of the enum's order.
+impl From<Cause> for u8 {
+    ghost from_gives = { λ c n. n ≡ cause_number_of c };
+
+    fn from(cause: Cause) -> u8 {
+        cause as u8
     }
 }
 
 pub fn is_yes(cause: Cause) -> bool
     ensures { result ≡ is_yes cause }
 {
-    cause_number(cause) == 0
+    matches!(cause, Cause::Yes)
 }
 
 // One call more; the count stops at 255, the most that a reply's byte holds.
 pub fn counted(calls: u8) -> u8
     ensures { result ≡ counted_of calls }
 {
-    if calls < 255 { calls + 1 } else { 255 }
+    calls.saturating_add(1)
 }

@@ -45,72 +45,58 @@ pub struct Labels {
     pub control_signs: ControlSigns,
 }
 
-pub fn label(n: u8) -> ReachedLimits
-    ensures { result ≡ label_of n }
-{
-    if n == 0 {
-        return ReachedLimits::Acc0Acc1Vel;
-    }
-    if n == 1 {
-        return ReachedLimits::Vel;
-    }
-    if n == 2 {
-        return ReachedLimits::Acc0;
-    }
-    if n == 3 {
-        return ReachedLimits::Acc1;
-    }
-    if n == 4 {
-        return ReachedLimits::Acc0Acc1;
-    }
-    if n == 5 {
-        return ReachedLimits::Acc0Vel;
-    }
-    if n == 6 {
-        return ReachedLimits::Acc1Vel;
-    }
-    ReachedLimits::None
-}
+// From 7 on, None.
+impl From<u8> for ReachedLimits {
+    ghost from_gives = { λ n l. l ≡ label_of n };
 
-pub fn signs(n: u8) -> ControlSigns
-    ensures { result ≡ signs_of n }
-{
-    if n == 0 {
-        return ControlSigns::UDDU;
-    }
-    ControlSigns::UDUD
-}
-
-pub fn label_number(limits: ReachedLimits) -> u8
-    ensures { result ≡ label_number_of limits }
-{
-    match limits {
-        ReachedLimits::Acc0Acc1Vel => 0,
-        ReachedLimits::Vel => 1,
-        ReachedLimits::Acc0 => 2,
-        ReachedLimits::Acc1 => 3,
-        ReachedLimits::Acc0Acc1 => 4,
-        ReachedLimits::Acc0Vel => 5,
-        ReachedLimits::Acc1Vel => 6,
-        ReachedLimits::None => 7,
+    fn from(n: u8) -> ReachedLimits {
+        match n {
+            0 => ReachedLimits::Acc0Acc1Vel,
+            1 => ReachedLimits::Vel,
+            2 => ReachedLimits::Acc0,
+            3 => ReachedLimits::Acc1,
+            4 => ReachedLimits::Acc0Acc1,
+            5 => ReachedLimits::Acc0Vel,
+            6 => ReachedLimits::Acc1Vel,
+            _ => ReachedLimits::None,
+        }
     }
 }
 
-pub fn direction_number(direction: Direction) -> u8
-    ensures { result ≡ direction_number_of direction }
-{
-    match direction {
-        Direction::UP => 0,
-        Direction::DOWN => 1,
+// From 1 on, UDUD.
+impl From<u8> for ControlSigns {
+    ghost from_gives = { λ n s. s ≡ signs_of n };
+
+    fn from(n: u8) -> ControlSigns {
+        match n {
+            0 => ControlSigns::UDDU,
+            _ => ControlSigns::UDUD,
+        }
     }
 }
 
-pub fn signs_number(control_signs: ControlSigns) -> u8
-    ensures { result ≡ signs_number_of control_signs }
-{
-    match control_signs {
-        ControlSigns::UDDU => 0,
-        ControlSigns::UDUD => 1,
+// Document 01's numbers are those of the enums' order.
+impl From<ReachedLimits> for u8 {
+    ghost from_gives = { λ l n. n ≡ label_number_of l };
+
+    fn from(limits: ReachedLimits) -> u8 {
+        limits as u8
+    }
+}
+
+impl From<Direction> for u8 {
+    ghost from_gives = { λ d n. n ≡ direction_number_of d };
+
+    fn from(direction: Direction) -> u8 {
+        direction as u8
+    }
+}
+
+impl From<ControlSigns> for u8 {
+    ghost from_gives = { λ s n. n ≡ signs_number_of s };
+
+    fn from(control_signs: ControlSigns) -> u8 {
+        control_signs as u8
     }
 }
 
@@ -133,15 +119,9 @@ pub fn marked_labels(marked: bool, ok: bool, was: Labels) -> Labels
     ensures { result ≡ marked_labels_of marked ok was }
 {
     if marked & !ok {
-        let limits = was.limits;
-        let direction = was.direction;
-        let control_signs = was.control_signs;
         Labels {
-            limits,
-            direction,
-            control_signs,
-            calls: was.calls,
             cause: Cause::NoRoot,
+            ..was
         }
     } else {
         was

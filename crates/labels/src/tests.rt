@@ -2,7 +2,7 @@
 ghost use Rattle.std.specs.Prelude.{◌≡◌};
 ghost use Rattle.labels.specs.Tests.{tests_of};
 
-use super::{ReachedLimits, label_number};
+use super::ReachedLimits;
 
 #[derive(Clone, Copy)]
 pub struct Tests {
@@ -17,75 +17,46 @@ pub struct Tests {
     pub set_a1_a5: bool,
 }
 
+const NONE: Tests = Tests {
+    t3: false,
+    t1: false,
+    t5: false,
+    a3: false,
+    set_a3: false,
+    set_a1_a5: false,
+};
+
+const VEL: Tests = Tests {
+    t3: true,
+    a3: true,
+    ..NONE
+};
+
+// A row for each label, in the enum's order.
 const TESTS: [Tests; 8] = [
+    VEL,
+    VEL,
+    Tests { t1: true, ..NONE },
     Tests {
-        t3: true,
-        t1: false,
-        t5: false,
-        a3: true,
-        set_a3: false,
-        set_a1_a5: false,
-    },
-    Tests {
-        t3: true,
-        t1: false,
-        t5: false,
-        a3: true,
-        set_a3: false,
-        set_a1_a5: false,
-    },
-    Tests {
-        t3: false,
-        t1: true,
-        t5: false,
-        a3: false,
-        set_a3: false,
-        set_a1_a5: false,
-    },
-    Tests {
-        t3: false,
-        t1: false,
         t5: true,
-        a3: false,
         set_a3: true,
-        set_a1_a5: false,
+        ..NONE
     },
     Tests {
-        t3: false,
         t1: true,
         t5: true,
         a3: true,
-        set_a3: false,
         set_a1_a5: true,
+        ..NONE
     },
-    Tests {
-        t3: true,
-        t1: false,
-        t5: false,
-        a3: true,
-        set_a3: false,
-        set_a1_a5: false,
-    },
-    Tests {
-        t3: true,
-        t1: false,
-        t5: false,
-        a3: true,
-        set_a3: false,
-        set_a1_a5: false,
-    },
-    Tests {
-        t3: false,
-        t1: false,
-        t5: false,
-        a3: false,
-        set_a3: false,
-        set_a1_a5: false,
-    },
+    VEL,
+    VEL,
+    NONE,
 ];
 
+#[tactic(auto, unfolding(crate::specs::Tests::tests_of))]
 pub fn tests_under(limits: ReachedLimits) -> Tests
     ensures { result ≡ tests_of limits }
 {
-    TESTS[(label_number(limits) as usize) % 8]
+    TESTS[limits as usize]
 }

@@ -58,6 +58,7 @@ pub fn direction(v_max: f64) -> Direction
     }
 }
 
+#[tactic(auto, unfolding(crate::specs::Limits::band_of))]
 pub fn widened(v_max: f64, max: f64, min: f64) -> Band
     ensures { result ≡ band_of v_max max min }
 {
@@ -74,12 +75,14 @@ fn within(x: f64, band: Band) -> bool
     (x >= band.low) & (x <= band.upp)
 }
 
+#[tactic(auto, using(row::proofs::Rows::part_at), unfolding(crate::specs::Limits::accelerations_kept_of))]
 fn accelerations_kept(x: &[f64; NUMBERS], band: Band) -> bool
     ensures { result ≡ accelerations_kept_of (numbers_in x.now).nodes band }
 {
     within(x[A1], band) & within(x[A3], band) & within(x[A5], band)
 }
 
+#[tactic(auto, using(row::proofs::Rows::part_at), unfolding(crate::specs::Limits::velocities_kept_of))]
 fn velocities_kept(x: &[f64; NUMBERS], band: Band) -> bool
     ensures { result ≡ velocities_kept_of (numbers_in x.now).nodes band }
 {
@@ -109,6 +112,7 @@ fn first_failing(p: bool, v: bool, a: bool, a_kept: bool, v_kept: bool) -> Cause
 }
 
 // The cause of the first test at the end that fails.
+#[tactic(auto, using(row::proofs::Rows::part_at), unfolding(crate::specs::Limits::end_tests))]
 pub fn ended(x: &[f64; NUMBERS], a_band: Band, v_band: Band) -> Cause
     ensures { result ≡ cause_of (end_tests (numbers_in x.now).nodes (numbers_in x.now).goal
         a_band v_band) }

@@ -8,7 +8,7 @@ ghost use Rattle.line_reply.specs.Reply.{reply_bytes_of, written_of};
 ghost use Rattle.line_answers.specs.CheckLine.{checked_of};
 ghost use Rattle.line_answers.specs.FrameAnswer.{Answer, frame_answer_of};
 
-use labels::{label, signs, start_labels};
+use labels::{ControlSigns, ReachedLimits, start_labels};
 use line_frame::{CheckNumbers, check_numbers};
 use line_kinds::{FRAME, RECORD};
 use line_questions::choices_fit;
@@ -27,8 +27,8 @@ fn check_reply(x: CheckNumbers, frame: &[u8; FRAME], reply: &mut [u8]) -> bool
     let answer = check(
         &mut row,
         start_labels(),
-        signs(frame[1]),
-        label(frame[2]),
+        ControlSigns::from(frame[1]),
+        ReachedLimits::from(frame[2]),
         frame[3] == 1,
         x.jf,
         x.v_max,

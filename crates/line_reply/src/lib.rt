@@ -11,7 +11,6 @@ ghost use Rattle.line_kinds.specs.Kinds.{record_places, causes_places, quartics_
 ghost use Rattle.line_reply.specs.Reply.{reply_bytes_of, causes_bytes_of, quartic_bytes, written_of};
 
 use hex_bytes::encode;
-use labels::causes::cause_number;
 use line_kinds::{CAUSES, RECORD};
 use profile::in_place::Verdict;
 use quartics::put_quartics;
@@ -48,8 +47,7 @@ pub fn write_causes(reply: &mut [u8], answer: Verdict, x: &[f64; NUMBERS]) -> bo
     let _all = &x[..];
     write_record(reply, answer, x);
     let labels = answer.labels;
-    let cause = labels.cause;
-    let two = [labels.calls, cause_number(cause)];
+    let two = [labels.calls, u8::from(labels.cause)];
     encode(&two, &mut reply[RECORD..])
 }
 

@@ -5,7 +5,6 @@ ghost use Rattle.profile.specs.Parts.{checked_in};
 ghost use Rattle.line_reply.specs.Reply.{head_of, reply_bytes_of};
 
 use super::stores::put_row;
-use labels::{direction_number, label_number, signs_number};
 use profile::in_place::Verdict;
 use row::NUMBERS;
 
@@ -14,13 +13,10 @@ fn put_head(bytes: &mut [u8; 364], answer: Verdict)
     ensures { bytes.new ≡ sets bytes.old 0 (head_of answer) }
 {
     let labels = answer.labels;
-    let limits = labels.limits;
-    let direction = labels.direction;
-    let control_signs = labels.control_signs;
     bytes[0] = verdict(answer.ok);
-    bytes[1] = label_number(limits);
-    bytes[2] = direction_number(direction);
-    bytes[3] = signs_number(control_signs);
+    bytes[1] = u8::from(labels.limits);
+    bytes[2] = u8::from(labels.direction);
+    bytes[3] = u8::from(labels.control_signs);
 }
 
 fn verdict(ok: bool) -> u8

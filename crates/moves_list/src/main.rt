@@ -4,7 +4,7 @@
 #![tactic(auto)]
 
 use hex_bytes::decode;
-use labels::{label, signs};
+use labels::{ControlSigns, ReachedLimits};
 use line_frame::{CheckNumbers, check_numbers, first_answer, move_numbers, second_answer};
 use line_kinds::{Asks, CAUSES, FRAME, LINE, QUARTICS, RECORD, row_of};
 use line_reply::{write_causes, write_quartics, write_record};
@@ -54,8 +54,8 @@ fn checked(frame: &[u8; FRAME], x: CheckNumbers) -> Checked {
     let t = x.t;
     q.t = t;
     q.check(
-        signs(frame[1]),
-        label(frame[2]),
+        ControlSigns::from(frame[1]),
+        ReachedLimits::from(frame[2]),
         frame[3] == 1,
         x.jf,
         x.v_max,

@@ -8,11 +8,11 @@ use native.Mathlib.Omega.{arith}
 use lib.ListN.{length, get_or, set, length-set}
 use lib.Seq.{get_or-set_same, get_or-set_other}
 use lib.Ieee.{Float, nan}
-use Rattle.labels.specs.declared.tests.Tests.{Tests}
 use Rattle.row.specs.Row.{Nodes, Numbers, part, numbers_in, with_nodes}
 use Rattle.row.proofs.Rows.{part_at, in_a, in_v, in_p}
 use Rattle.limits.specs.declared.Band.{Band}
 use Rattle.phases.specs.declared.phase.Next.{Next}
+use Rattle.phases.specs.declared.replacing.Replacing.{Replacing}
 use Rattle.phases.specs.Run.{Step, no!, run}
 use Rattle.phases.specs.Phase.{next_of, node_of, phase_of}
 use Rattle.phases.specs.Moved.{moved_of}
@@ -42,40 +42,41 @@ node_seen x i r h =
     }) m)
     (in_p (r.p ∷ []) x (38 + i) (i + 1) (omega arith) (omega arith))
 
-module _ (m : Tests) (set_limits : Bool) (a_max a_min : Float) (b : Band) where
+module _ (w : Replacing) (b : Band) where
   -- what `nodes` does to a row, and the same on numbers
   abbrev pub row-phase : ℕ → List Float → Step (List Float)
   row-phase i x =
       let r =
-      next_of m set_limits a_max a_min b i (get_or x i nan) (get_or x (14 + i) nan) (get_or x (37 + i) nan)
+      next_of w.tests w.set_limits w.a_max w.a_min b i (get_or x i nan) (get_or x (14 + i) nan) (get_or x (37 + i) nan)
       (get_or x (29 + i) nan) (get_or x (21 + i) nan) in
       record { ok = r.ok; left = node_in x i r }
 
   on_numbers : ℕ → Numbers → Step Numbers
-  on_numbers i n = seen (λ (q : Nodes). with_nodes q n) (phase_of m set_limits a_max a_min b n.t n.j i n.nodes)
+  on_numbers i n =
+      seen (λ (q : Nodes). with_nodes q n) (phase_of w.tests w.set_limits w.a_max w.a_min b n.t n.j i n.nodes)
 
   step_seen : (i : ℕ) (x : List Float) → i < 7 → seen numbers_in (row-phase i x) ≡ on_numbers i (numbers_in x)
   unfolding on_numbers phase_of node_of
   step_seen i x h =
       rw (part_at 0 7 i x h, zero-add i, part_at 14 7 i x h, part_at 37 8 i x (omega arith))
       (rw (part_at 29 8 i x (omega arith), part_at 21 8 i x (omega arith))
-      (rw (node_seen x i (next_of m set_limits a_max a_min b i (get_or x i nan) (get_or x (14 + i) nan)
+      (rw (node_seen x i (next_of w.tests w.set_limits w.a_max w.a_min b i (get_or x i nan) (get_or x (14 + i) nan)
       (get_or x (37 + i) nan) (get_or x (29 + i) nan) (get_or x (21 + i) nan)) h)))
 
   pub moved : (x : List Float) {y : Step (List Float)} → y ≡ run row-phase 7 0 x
-      → seen numbers_in y ≡ moved_of m set_limits a_max a_min b (numbers_in x)
+      → seen numbers_in y ≡ moved_of w.tests w.set_limits w.a_max w.a_min b (numbers_in x)
   unfolding moved_of
   moved x e =
       rw e
       (runs numbers_in row-phase on_numbers 7 step_seen 7 0 x (omega arith)
-      ∙ sym (runs (λ (q : Nodes). with_nodes q n) (phase_of m set_limits a_max a_min b n.t n.j) on_numbers 7
+      ∙ sym (runs (λ (q : Nodes). with_nodes q n) (phase_of w.tests w.set_limits w.a_max w.a_min b n.t n.j) on_numbers 7
       (λ i q h. beside i q) 7 0 n.nodes (omega arith)))
     where
       n : Numbers
       n = numbers_in x
 
       beside : (i : ℕ) (q : Nodes)
-          → seen (λ (q : Nodes). with_nodes q n) (phase_of m set_limits a_max a_min b n.t n.j i q)
+          → seen (λ (q : Nodes). with_nodes q n) (phase_of w.tests w.set_limits w.a_max w.a_min b n.t n.j i q)
           ≡ on_numbers i (with_nodes q n)
       beside i q = unfold on_numbers in refl
 
@@ -115,12 +116,12 @@ held x i r e h =
     same : (l : List Float) (j k : ℕ) (z : Float) → k ≡ j → j < length l → get_or (set l j z) k nan ≡ z
     same l j k z e h = ap (λ (n : ℕ). get_or (set l j z) n nan) e ∙ get_or-set_same l j z nan h
 
-module _ (m : Tests) (set_limits : Bool) (a_max a_min : Float) (b : Band) (x : List Float) (i : ℕ) {p0 v0 a0 : Float}
+module _ (w : Replacing) (b : Band) (x : List Float) (i : ℕ) {p0 v0 a0 : Float}
     (h : Held x i p0 v0 a0) {r : Next}
-    (e : r ≡ next_of m set_limits a_max a_min b i (get_or x i nan) (get_or x (14 + i) nan) p0 v0 a0)
+    (e : r ≡ next_of w.tests w.set_limits w.a_max w.a_min b i (get_or x i nan) (get_or x (14 + i) nan) p0 v0 a0)
     (more : i < 7) where
   abbrev one : ℕ → List Float → Step (List Float)
-  one = row-phase m set_limits a_max a_min b
+  one = row-phase w b
 
   stepped : record { ok = r.ok; left = node_in x i r } ≡ one i x
   stepped = rw (e, h.at_p, h.at_v, h.at_a)

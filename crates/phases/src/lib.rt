@@ -4,4 +4,5 @@
 
 pub mod nodes;
 mod phase;
+pub mod replacing;
 pub mod times;

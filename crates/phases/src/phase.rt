@@ -1,28 +1,16 @@
-// One phase of `check`: the node after it, the accelerations that labels replace, and the velocity at zero
-// acceleration.
+// One phase of `check`: the node after it, and the velocity at zero acceleration.
 ghost use Rattle.std.specs.Prelude.{◌≡◌};
-ghost use Rattle.phases.specs.Phase.{replaced_of, zero_inside_of, next_of};
+ghost use Rattle.phases.specs.Phase.{zero_inside_of, next_of};
 
-use float::pick;
-use labels::tests::Tests;
+use super::replacing::Replacing;
 use limits::Band;
 use util::integrate;
 
-const EPSILON: f64 = 2.220446049250313e-16;
-
-fn replaced(tests: Tests, set_limits: bool, a_max: f64, a_min: f64, i: usize, a: f64) -> f64
-    ensures { result ≡ replaced_of tests set_limits a_max a_min i a }
-{
-    let x = pick(tests.a3 & (i == 2), 0.0, a);
-    let y = pick(set_limits & tests.set_a3 & (i == 2), a_min, x);
-    let z = pick(set_limits & tests.set_a1_a5 & (i == 0), a_max, y);
-    pick(set_limits & tests.set_a1_a5 & (i == 4), a_min, z)
-}
-
+#[tactic(auto, unfolding(crate::specs::Phase::zero_inside_of))]
 fn zero_inside(i: usize, v0: f64, a0: f64, a1: f64, j: f64, band: Band) -> bool
     ensures { result ≡ zero_inside_of i v0 a0 a1 j band }
 {
-    if (i > 1) & (a1 * a0 < -EPSILON) {
+    if (i > 1) & (a1 * a0 < -f64::EPSILON) {
         let v_a_zero = v0 - (a0 * a0) / (2.0 * j);
         !((v_a_zero > band.upp) | (v_a_zero < band.low))
     } else {
@@ -31,6 +19,7 @@ fn zero_inside(i: usize, v0: f64, a0: f64, a1: f64, j: f64, band: Band) -> bool
 }
 
 // The node after a phase, and whether its test passes.
+// Stays: a flag beside the node, since the node of a phase whose test says no is recorded too (`node_of`).
 #[derive(Clone, Copy)]
 pub struct Next {
     pub ok: bool,
@@ -46,16 +35,14 @@ pub fn phase(
     p0: f64,
     v0: f64,
     a0: f64,
-    tests: Tests,
-    set_limits: bool,
-    a_max: f64,
-    a_min: f64,
+    replacing: Replacing,
     band: Band,
 ) -> Next
-    ensures { result ≡ next_of tests set_limits a_max a_min band i t j p0 v0 a0 }
+    ensures { result ≡ next_of replacing.tests replacing.set_limits replacing.a_max replacing.a_min
+        band i t j p0 v0 a0 }
 {
     let next = integrate(t, p0, v0, a0, j);
-    let a1 = replaced(tests, set_limits, a_max, a_min, i, next.a);
+    let a1 = replacing.replaced(i, next.a);
     Next {
         ok: zero_inside(i, v0, a0, a1, j, band),
         p: next.p,

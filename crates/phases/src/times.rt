@@ -10,14 +10,14 @@ use labels::causes::Cause;
 use labels::tests::Tests;
 use row::{NUMBERS, T_SUM};
 
-const EPSILON: f64 = 2.220446049250313e-16;
-
 const T_MAX: f64 = 1e12;
 
 const T_SUM1: usize = T_SUM + 1;
 
 const TOTAL: usize = T_SUM + 6;
 
+// Stays: an index over the sums, since each is read back from the row as the one before: an iterator over it would have
+// to lend two places at once, the one read and the one written.
 pub fn sums(x: &mut [f64; NUMBERS]) -> bool
     ensures { record { ok = result; left = numbers_in x.new } ≡ summed_of (numbers_in x.old) }
 {
@@ -56,14 +56,15 @@ fn first_short(t3: bool, t1: bool, t5: bool, total: bool) -> Cause
 }
 
 // The cause of the first test of the label or of the total that fails.
+#[tactic(auto, using(row::proofs::Rows::part_at), unfolding(crate::specs::Times::label_tests))]
 pub fn refusal(tests: Tests, x: &[f64; NUMBERS]) -> Cause
     ensures { result ≡ cause_of (label_tests tests (numbers_in x.now).t
         (numbers_in x.now).t_sum) }
 {
     first_short(
-        tests.t3 & (x[3] < EPSILON),
-        tests.t1 & (x[1] < EPSILON),
-        tests.t5 & (x[5] < EPSILON),
+        tests.t3 & (x[3] < f64::EPSILON),
+        tests.t1 & (x[1] < f64::EPSILON),
+        tests.t5 & (x[5] < f64::EPSILON),
         x[TOTAL] > T_MAX,
     )
 }

@@ -11,9 +11,12 @@ use labels::tests::tests_under;
 use labels::{ControlSigns, Direction, Labels, ReachedLimits, marked_labels};
 use limits::{direction, ended, widened};
 use phases::nodes::nodes;
+use phases::replacing::Replacing;
 use phases::times::{refusal, sums};
 use row::{NUMBERS, set_jerks, times};
 
+// Stays: a flag beside the labels, since a no leaves labels as a yes does: one call more, its cause and perhaps another
+// direction (`check_of`), and a line of kind 00 answers them.
 #[derive(Clone, Copy)]
 pub struct Verdict {
     pub ok: bool,
@@ -27,20 +30,18 @@ fn no(was: Labels, direction: Direction, calls: u8, cause: Cause) -> Verdict
       labels = labels was.limits direction was.control_signs calls cause;
     } }
 {
-    let limits = was.limits;
-    let control_signs = was.control_signs;
     Verdict {
         ok: false,
         labels: Labels {
-            limits,
             direction,
-            control_signs,
             calls,
             cause,
+            ..was
         },
     }
 }
 
+// Stays: jf to a_min one by one, since they are the parameters of the Rust's `check`, in its order.
 pub fn check(
     x: &mut [f64; NUMBERS],
     labels: Labels,
@@ -70,7 +71,13 @@ pub fn check(
     set_jerks(x, jerks(control_signs, times(x), jf));
     let way = direction(v_max);
     let v_band = widened(v_max, v_max, v_min);
-    if !nodes(x, made, set_limits, a_max, a_min, v_band) {
+    let replacing = Replacing {
+        tests: made,
+        set_limits,
+        a_max,
+        a_min,
+    };
+    if !nodes(x, replacing, v_band) {
         return no(labels, way, calls, Cause::VelocityAtZero);
     }
     let a_band = widened(v_max, a_max, a_min);
@@ -89,6 +96,7 @@ pub fn check(
 
 // Time is not tested: the Rust's formulas are to sum up to the duration. A marked attempt took a square root that does
 // not exist.
+#[tactic(auto, unfolding(crate::specs::Timing::timing_of, crate::specs::Parts::profile_in))]
 pub fn check_with_timing(
     x: &mut [f64; NUMBERS],
     labels: Labels,
@@ -117,9 +125,8 @@ pub fn check_with_timing(
         a_max,
         a_min,
     );
-    let now = answer.labels;
     Verdict {
-        ok: answer.ok,
-        labels: marked_labels(marked, answer.ok, now),
+        labels: marked_labels(marked, answer.ok, answer.labels),
+        ..answer
     }
 }

@@ -15,7 +15,7 @@ ghost use Rattle.profile.specs.Timing.{timing_of, timing_full_of};
 use float::abs;
 use labels::causes::Cause;
 use labels::{ControlSigns, Direction, Labels, ReachedLimits, marked_labels, start_labels};
-use parts::{eight, seven};
+use parts::part;
 use row::{
     A, AF, J, NUMBERS, P, PF, T_SUM, V, VF, set_jerks, set_nodes, set_sums, set_times, start,
 };
@@ -42,6 +42,7 @@ pub struct Profile {
 }
 
 // The verdict of a check, with the record as it leaves it.
+// Stays: a flag beside the record, since the record is the Rust's after a no as after a yes (`check_of`).
 #[derive(Clone, Copy)]
 pub struct Checked {
     pub ok: bool,
@@ -50,71 +51,60 @@ pub struct Checked {
 
 impl Profile {
     // A profile by its row and its labels; `row` and `labels` take one apart. Its fields are named here alone.
+    #[tactic(auto, unfolding(crate::specs::Parts::profile_in))]
     pub fn from_row(x: [f64; NUMBERS], labels: Labels) -> Profile
         ensures { result ≡ profile_in x labels }
     {
-        let limits = labels.limits;
-        let direction = labels.direction;
-        let control_signs = labels.control_signs;
-        let cause = labels.cause;
         Profile {
-            t: seven(&x, 0),
-            t_sum: seven(&x, T_SUM),
-            j: seven(&x, J),
-            a: eight(&x, A),
-            v: eight(&x, V),
-            p: eight(&x, P),
+            t: part(&x, 0),
+            t_sum: part(&x, T_SUM),
+            j: part(&x, J),
+            a: part(&x, A),
+            v: part(&x, V),
+            p: part(&x, P),
             pf: x[PF],
             vf: x[VF],
             af: x[AF],
-            limits,
-            direction,
-            control_signs,
+            limits: labels.limits,
+            direction: labels.direction,
+            control_signs: labels.control_signs,
             calls: labels.calls,
-            cause,
+            cause: labels.cause,
         }
     }
 
     pub fn row(self) -> [f64; NUMBERS]
         ensures { numbers_in result ≡ numbers_of self }
     {
-        let t = self.t;
-        let t_sum = self.t_sum;
-        let j = self.j;
-        let a = self.a;
-        let v = self.v;
-        let p = self.p;
         let mut x = start(0.0, 0.0, 0.0, self.pf, self.vf, self.af);
-        set_times(&mut x, t);
-        set_sums(&mut x, t_sum);
-        set_jerks(&mut x, j);
-        set_nodes(&mut x, a, v, p);
+        set_times(&mut x, self.t);
+        set_sums(&mut x, self.t_sum);
+        set_jerks(&mut x, self.j);
+        set_nodes(&mut x, self.a, self.v, self.p);
         x
     }
 
     pub fn labels(self) -> Labels
         ensures { result ≡ labels_of self }
     {
-        let limits = self.limits;
-        let direction = self.direction;
-        let control_signs = self.control_signs;
-        let cause = self.cause;
         Labels {
-            limits,
-            direction,
-            control_signs,
+            limits: self.limits,
+            direction: self.direction,
+            control_signs: self.control_signs,
             calls: self.calls,
-            cause,
+            cause: self.cause,
         }
     }
 
     // `Profile::default()`.
+    #[tactic(auto, unfolding(crate::specs::Parts::profile_in))]
     pub fn default() -> Profile
         ensures { result ≡ default_of }
     {
         Profile::from_row(start(0.0, 0.0, 0.0, 0.0, 0.0, 0.0), start_labels())
     }
 
+    #[tactic(auto, unfolding(crate::specs::Boundary::boundary_of))]
     pub fn set_boundary(
         self,
         p0_new: f64,
@@ -136,6 +126,8 @@ impl Profile {
         next
     }
 
+    // Stays: jf to a_min one by one, since they are the parameters of the Rust's `check`, in its order.
+    #[tactic(auto, using(crate::proofs::Ways::put_together), unfolding(crate::specs::Parts::profile_in))]
     pub fn check(
         self,
         control_signs: ControlSigns,
@@ -163,13 +155,13 @@ impl Profile {
             a_max,
             a_min,
         );
-        let now = answer.labels;
         Checked {
             ok: answer.ok,
-            profile: Profile::from_row(x, now),
+            profile: Profile::from_row(x, answer.labels),
         }
     }
 
+    #[tactic(auto, using(crate::proofs::Ways::put_together), unfolding(crate::specs::Parts::profile_in))]
     pub fn check_with_timing(
         self,
         control_signs: ControlSigns,
@@ -196,14 +188,14 @@ impl Profile {
             a_min,
             marked,
         );
-        let now = answer.labels;
         Checked {
             ok: answer.ok,
-            profile: Profile::from_row(x, now),
+            profile: Profile::from_row(x, answer.labels),
         }
     }
 
     // The jerk is held to j_max first. A marked attempt that it keeps from `check` has its cause all the same.
+    #[tactic(auto, unfolding(crate::specs::Timing::timing_full_of, crate::specs::Timing::timing_of))]
     pub fn check_with_timing_full(
         self,
         control_signs: ControlSigns,

@@ -9,7 +9,7 @@
 use digits::{byte_to_digits, from_digits};
 use float::is_finite;
 use hex_bytes::decode;
-use labels::{ControlSigns, ReachedLimits, label, signs};
+use labels::{ControlSigns, ReachedLimits};
 use line_frame::{CheckNumbers, check_numbers};
 use line_kinds::{CAUSES, FRAME};
 use line_reply::write_causes;
@@ -111,8 +111,8 @@ fn send_lent(
         x.pf,
         x.vf,
         x.af,
-        signs(frame[1]),
-        label(frame[2]),
+        ControlSigns::from(frame[1]),
+        ReachedLimits::from(frame[2]),
         frame[3] == 1,
         x.jf,
         x.v_max,
@@ -141,8 +141,8 @@ fn bounded(x: CheckNumbers) -> Profile {
 
 fn with_timing(frame: &[u8; FRAME], x: CheckNumbers, marked: bool) -> Checked {
     bounded(x).check_with_timing(
-        signs(frame[1]),
-        label(frame[2]),
+        ControlSigns::from(frame[1]),
+        ReachedLimits::from(frame[2]),
         x.jf,
         x.v_max,
         x.v_min,
@@ -160,8 +160,8 @@ fn with_timing_full(
     marked: bool,
 ) -> Checked {
     bounded(x).check_with_timing_full(
-        signs(frame[1]),
-        label(frame[2]),
+        ControlSigns::from(frame[1]),
+        ReachedLimits::from(frame[2]),
         tf,
         x.jf,
         x.v_max,

@@ -2,14 +2,12 @@
 -- were. Assumes nothing.
 use mathlib.Core.Path.{◌≡◌, refl, ap, sym, ◌∙◌}
 use mathlib.Core.List.{List, [], ◌∷◌, append-nil}
-use Prim.Native.Nat.{ℕ, zero, suc, ◌+◌, ◌-◌, ◌≤◌, ◌<◌}
-use native.Mathlib.Nat.{add-zero, add-suc}
-use native.Mathlib.Numerals.{add-one}
+use Prim.Native.Nat.{ℕ, suc, ◌+◌, ◌-◌, ◌≤◌, ◌<◌}
 use native.Mathlib.Omega.{arith}
 use lib.ListN.{length, get_or, take, drop, set, length-drop, drop_of_length-le}
 use lib.Seq.{sets, sets-eq, get_or-take, get_or-drop, get_or-set_other, take-set-lt, take-set-le, drop-set-add}
 use lib.Seq.{drop-set-lt}
-use lib.Seq.{length-take-le, drop-cons, length-sets}
+use lib.Seq.{length-take-le, length-sets}
 use lib.Ieee.{Float, nan}
 use Rattle.row.specs.Row.{Numbers, part, goal_in, numbers_in, with_times, with_sums, with_jerks, with_nodes}
 
@@ -25,29 +23,6 @@ part_long k n x h = length-take-le n (drop k x) (simp length-drop (omega arith))
 pub filled : (l vs : List Float) → length vs ≡ length l → sets l 0 vs ≡ vs
 filled l vs e =
     sets-eq vs l 0 (omega arith) ∙ rw (drop_of_length-le l {i = 0 + length vs} (omega arith), append-nil vs)
-
--- a part, spelt out
-abbrev up_to : ℕ → ℕ → List Float → List Float
-up_to zero k x = []
-up_to (suc n) k x = get_or x k nan ∷ up_to n (suc k) x
-
-pub spelt : (n k : ℕ) (x : List Float) → k + n ≤ length x → up_to n k x ≡ part k n x
-unfolding part
-spelt zero k x h = refl
-spelt (suc n) k x h =
-    ap (λ (l : List Float). get_or x k nan ∷ l) (spelt n (suc k) x (omega arith))
-    ∙ ap (take (suc n)) (sym (drop-cons x k nan (omega arith)))
-
--- ---- stores one after the other: what is still to be stored from here is the whole from the start
-pub none_stored : (x some : List Float) (at : ℕ) → sets x (at + 0) (drop 0 some) ≡ sets x at some
-none_stored x some at = rw (add-zero at)
-
-pub one_stored : (x some : List Float) (at i : ℕ) → i < length some
-    → sets (set x (at + i) (get_or some i nan)) (at + (i + 1)) (drop (i + 1) some) ≡ sets x (at + i) (drop i some)
-one_stored x some at i h = rw (add-one i, add-suc at i, drop-cons some i nan h)
-
-pub all_stored : (x some : List Float) (at i : ℕ) → length some ≤ i → x ≡ sets x (at + i) (drop i some)
-all_stored x some at i h = rw (drop_of_length-le some h)
 
 -- ---- a part of a row after stores in it, before it, after it
 module _ (k n : ℕ) where

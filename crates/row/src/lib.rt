@@ -25,6 +25,7 @@ pub const VF: usize = 46;
 pub const AF: usize = 47;
 
 // All zeros but for where a move begins and where it is to end.
+#[tactic(auto, unfolding(crate::specs::Row::part))]
 pub fn start(p0: f64, v0: f64, a0: f64, pf: f64, vf: f64, af: f64) -> [f64; NUMBERS]
     ensures { numbers_in result ≡ start_of p0 v0 a0 pf vf af }
 {
@@ -43,24 +44,26 @@ fn put(x: &mut [f64], at: usize, some: &[f64])
     requires { at + length some.now ≤ length x.old }
     ensures { x.new ≡ sets x.old at some.now }
 {
-    for i in 0..some.len() {
-        x[at + i] = some[i];
-    }
+    x[at..at + some.len()].copy_from_slice(some);
 }
 
 // A whole part of the row.
+// Stays: three by name, since each is public with a promise of its own (`with_times`, `with_sums`, `with_jerks`).
+#[tactic(auto, using(crate::proofs::Rows::put_times))]
 pub fn set_times(x: &mut [f64; NUMBERS], t: [f64; 7])
     ensures { numbers_in x.new ≡ with_times t (numbers_in x.old) }
 {
     put(x, 0, &t);
 }
 
+#[tactic(auto, using(crate::proofs::Rows::put_sums))]
 pub fn set_sums(x: &mut [f64; NUMBERS], t_sum: [f64; 7])
     ensures { numbers_in x.new ≡ with_sums t_sum (numbers_in x.old) }
 {
     put(x, T_SUM, &t_sum);
 }
 
+#[tactic(auto, using(crate::proofs::Rows::put_jerks))]
 pub fn set_jerks(x: &mut [f64; NUMBERS], j: [f64; 7])
     ensures { numbers_in x.new ≡ with_jerks j (numbers_in x.old) }
 {
@@ -76,9 +79,11 @@ pub fn set_nodes(x: &mut [f64; NUMBERS], a: [f64; 8], v: [f64; 8], p: [f64; 8])
     put(x, P, &p);
 }
 
+#[tactic(auto, unfolding(crate::specs::Row::part))]
 pub fn times(x: &[f64; NUMBERS]) -> [f64; 7]
     ensures { result ≡ (numbers_in x.now).t }
 {
-    let all = &x[..];
-    [all[0], all[1], all[2], all[3], all[4], all[5], all[6]]
+    let mut t = [0.0; 7];
+    t.copy_from_slice(&x[..7]);
+    t
 }

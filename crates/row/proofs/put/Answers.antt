@@ -1,28 +1,18 @@
--- `put` stores one number after the other. Assumes nothing.
-use Prim.Native.Nat.{◌<◌}
-use mathlib.Core.Path.{refl, ◌∙◌}
+-- `put` stores the numbers in the places from `at` on. Assumes nothing.
+use mathlib.Core.Path.{sym, ◌∙◌}
+use Prim.Native.Nat.{◌+◌, ◌-◌}
 use native.Mathlib.Omega.{arith}
-use lib.ListN.{length}
 use borrow.Author.Rules.{rules}
-use Rattle.row.proofs.Rows.{none_stored, one_stored, all_stored}
+use lib.ListN.{length}
+use lib.Seq.{sets-eq}
+use Rattle.std.proofs.Math.Seq.{take-length}
+use Rattle.std.proofs.lemmas.Slice.{put_mid-paste}
 use Rattle.row.proofs.put.Goals as goal
-
-pub loop-i-init : goal.loop-i-init
-loop-i-init c = (omega arith, refl, refl, none_stored c.args.x.now c.args.some.now c.args.at)
-
-pub loop-i-preserved : goal.loop-i-preserved
-loop-i-preserved c =
-    let more : c.loop-i.i < length c.args.some.now = omega arith in (
-      omega arith,
-      c.loop-i.invariant.1,
-      search rules,
-      one_stored c.loop-i.x c.args.some.now c.args.at c.loop-i.i more ∙ c.loop-i.invariant.3,
-    )
-
-pub shape_of-x : goal.shape_of-x
-shape_of-x c =
-    c.loop-i.invariant.2
 
 pub returns : goal.returns
 returns c =
-    all_stored c.loop-i.x c.args.some.now c.args.at c.loop-i.i (omega arith) ∙ c.loop-i.invariant.3
+    let some = c.args.some.now in
+    let at = c.args.at in
+    put_mid-paste at (at + length some - at) c.args.x.now _ some (length some) c.copy_from_slice.ensures.after
+    (omega arith) (search rules)
+    ∙ rw (take-length some) (sym (sets-eq some c.args.x.now at c.requires))

@@ -14,15 +14,15 @@ loop-i-init c =
 
 pub returns-then-not-next : goal.returns-then-not-next
 returns-then-not-next c =
-    moved c.args.tests c.args.set_limits c.args.a_max c.args.a_min c.args.band c.args.x.now
-    (stops c.args.tests c.args.set_limits c.args.a_max c.args.a_min c.args.band c.loop-i.x c.loop-i.i
+    moved c.args.replacing c.args.band c.args.x.now
+    (stops c.args.replacing c.args.band c.loop-i.x c.loop-i.i
     c.loop-i.invariant.2
     c.phase-next.ensures c.loop-i-test.true (not-true c.phase-next.result.ok c.if-not-next.true) ∙ c.loop-i.invariant.1)
 
 pub loop-i-preserved : goal.loop-i-preserved
 loop-i-preserved c = (
   omega (arith, c.loop-i-test.true),
-  goes c.args.tests c.args.set_limits c.args.a_max c.args.a_min c.args.band c.loop-i.x c.loop-i.i c.loop-i.invariant.2
+  goes c.args.replacing c.args.band c.loop-i.x c.loop-i.i c.loop-i.invariant.2
       c.phase-next.ensures c.loop-i-test.true (not-false c.phase-next.result.ok c.if-not-next.false)
       ∙ c.loop-i.invariant.1,
   held c.loop-i.x c.loop-i.i c.phase-next.result c.loop-i.invariant.2.row c.loop-i-test.true,
@@ -30,5 +30,5 @@ loop-i-preserved c = (
 
 pub returns : goal.returns
 returns c =
-    moved c.args.tests c.args.set_limits c.args.a_max c.args.a_min c.args.band c.args.x.now
+    moved c.args.replacing c.args.band c.args.x.now
     (done _ 7 c.loop-i.i c.loop-i.x (omega arith) ∙ c.loop-i.invariant.1)

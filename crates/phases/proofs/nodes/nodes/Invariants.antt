@@ -9,8 +9,8 @@ use Rattle.phases.proofs.nodes.nodes.Given as goal
 abbrev pub invariant-loop-i : goal.invariant-loop-i
 invariant-loop-i l =
     (l.i ≤ 7)
-    × (run (row-phase l.tests l.set_limits l.a_max l.a_min l.band) (7 - l.i) l.i l.x
-    ≡ run (row-phase l.tests l.set_limits l.a_max l.a_min l.band) 7 0 l.initial.x)
+    × (run (row-phase l.replacing l.band) (7 - l.i) l.i l.x
+    ≡ run (row-phase l.replacing l.band) 7 0 l.initial.x)
     × Held l.x l.i l.p0 l.v0 l.a0
 
 abbrev pub decreases-loop-i : goal.decreases-loop-i
