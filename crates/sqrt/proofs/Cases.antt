@@ -8,13 +8,12 @@ use native.Mathlib.Omega.{arith}
 use mathlib.Core.Bool.{Bool, true, false, not, ◌&&◌, ◌||◌, beq, true≢false, false≢true}
 use lib.IntN.{ℤ}
 use lib.Dec.{T, ltb, leb, eqb, leb→le, eqb→eq, not_T}
-use lib.Ieee.{Float, nan, inf, fin, binary64, up, down, below, level, lt, eq, le, div, fits, is_nan, nan_bits, of_bits}
+use lib.Ieee.{Float, nan, inf, fin, binary64, up, down, below, level, lt, eq, le, fits, is_nan, nan_bits, of_bits}
 use lib.Ieee.{to_bits}
 use lib.Ieee.Fits.{up_pos, down_pos, and_l, and_r}
 use lib.Ieee.Bits.{cond_no, nan_bits_above}
 use borrow.Author.Tests.{ltb-true, ltb-false, lt-ltb, le-ltb}
-use Rattle.sqrt.specs.declared.SquareRoot.{SquareRoot}
-use Rattle.sqrt.specs.declared.SquareRoot.TheVariants.{Root, Mark}
+use Rattle.std.specs.Prelude.{Option, Some, None, unwrap_or}
 use Rattle.sqrt.specs.Sqrt.{nearest_root, units_in, radicand, square_root_of, f64_of, sqrt_of}
 use Rattle.sqrt.specs.Steps.{RootBits}
 use Rattle.sqrt.proofs.Units.{to_bits_parts}
@@ -150,8 +149,8 @@ sqrt_zero (fin s (suc m) e) t =
     (and_l a (beq s false || eqb (suc m * up e * 1) 0) (subst T (sym t) tt)))))
 
 pub sqrt_none : (x : Float) → lt (of_bits binary64 0) x ≡ false → eq x (of_bits binary64 0) ≡ false
-    → div binary64 (of_bits binary64 0) (of_bits binary64 0) ≡ sqrt_of x
-unfolding lt eq div of_bits sqrt_of square_root_of
+    → of_bits binary64 0x7ff8_0000_0000_0000 ≡ sqrt_of x
+unfolding lt eq of_bits sqrt_of square_root_of
 sqrt_none nan t u = refl
 sqrt_none (inf true) t u = refl
 sqrt_none (inf false) t u = absurd (true≢false t)
@@ -159,6 +158,9 @@ sqrt_none (fin s zero e) t u =
     absurd (true≢false (sym (zero-level s (0 * up e * 1) (0 * down e) (omega arith) (omega arith)) ∙ u))
 sqrt_none (fin true (suc m) e) t u = sym (ap f64_of (cond_no (eqb (suc m) 0) _ _ (not_zero-test m)))
 sqrt_none (fin false (suc m) e) t u = absurd (not_zero m e (ltb-false (0 * down e) (suc m * up e * 1) t))
+
+-- all that `sqrt_unmarked` rests on
+pub ruleset ways_out = (no_nan, bits_pos, no_nan_bits, sqrt_finite, sqrt_infinite, sqrt_zero, sqrt_none)
 
 -- ---- 0 or above, or neither: 0 against ±b, as `le` has it
 abbrev from_0 : Bool → ℕ → ℕ → Bool
@@ -178,7 +180,7 @@ minus-from_0 a b p h = rw p (by (eqb 0 b) (λ t. let e = eqb→eq 0 b t in omega
     by true h = absurd (h tt)
     by false h = refl
 
-pub has_root : (x : Float) → le (of_bits binary64 0) x ≡ true → Root (sqrt_of x) ≡ square_root_of x
+pub has_root : (x : Float) → le (of_bits binary64 0) x ≡ true → Some (sqrt_of x) ≡ square_root_of x
 unfolding le lt eq of_bits sqrt_of square_root_of
 has_root nan t = absurd (false≢true t)
 has_root (inf true) t = absurd (false≢true t)
@@ -187,9 +189,9 @@ has_root (fin s zero e) t = refl
 has_root (fin true (suc m) e) t =
     absurd (true≢false (sym t ∙ minus-from_0 (0 * down e) (suc m * up e * 1) (omega arith) (size-pos m e)))
 has_root (fin false (suc m) e) t =
-    let q = cond_no (eqb (suc m) 0) _ _ (not_zero-test m) in ap (λ (r : SquareRoot). Root (f64_of r)) q ∙ sym q
+    let q = cond_no (eqb (suc m) 0) _ _ (not_zero-test m) in ap (λ (r : Option Float). Some (f64_of r)) q ∙ sym q
 
-pub has_mark : (x : Float) → le (of_bits binary64 0) x ≡ false → Mark ≡ square_root_of x
+pub has_mark : (x : Float) → le (of_bits binary64 0) x ≡ false → None ≡ square_root_of x
 unfolding le lt eq of_bits square_root_of
 has_mark nan t = refl
 has_mark (inf true) t = refl
@@ -199,3 +201,9 @@ has_mark (fin s zero e) t =
 has_mark (fin true (suc m) e) t = sym (cond_no (eqb (suc m) 0) _ _ (not_zero-test m))
 has_mark (fin false (suc m) e) t =
     absurd (true≢false (sym (plus-from_0 (0 * down e) (suc m * up e * 1) (omega arith) (size-pos m e)) ∙ t))
+
+-- ---- from a root or a mark to an f64
+pub or_nan : (r : Option Float) → unwrap_or r (of_bits binary64 0x7ff8_0000_0000_0000) ≡ f64_of r
+unfolding of_bits
+or_nan None = refl
+or_nan (Some r) = refl

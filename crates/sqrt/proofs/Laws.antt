@@ -12,8 +12,7 @@ use lib.Ieee.Fits.{nan-fits, inf-fits}
 use lib.Ieee.Bits.{cond_no}
 use lib.Ieee.Positive.{positive}
 use borrow.Author.Tests.{lt-ltb, le-ltb}
-use Rattle.sqrt.specs.declared.SquareRoot.{SquareRoot}
-use Rattle.sqrt.specs.declared.SquareRoot.TheVariants.{Root, Mark}
+use Rattle.std.specs.Prelude.{Option, Some, None}
 use Rattle.sqrt.specs.Sqrt.{square_root_of, f64_of, is_mark_of, sqrt_of}
 use Rattle.sqrt.proofs.Cases.{not_zero-test, size-pos}
 use Rattle.sqrt.proofs.Nearest.{sqrt_nearest}
@@ -72,6 +71,6 @@ marked_are (fin true (suc m) e) =
 marked_are (fin false (suc m) e) =
     rw (cond_no (eqb (suc m) 0) _ _ (not_zero-test m), le-ltb (suc m * up e * 1) (0 * down e) (omega arith))
 
-pub mark_is_nan : (r : SquareRoot) → is_mark_of r ≡ true → f64_of r ≡ nan
-mark_is_nan (Root r) h = absurd (false≢true h)
-mark_is_nan Mark h = refl
+pub mark_is_nan : (r : Option Float) → is_mark_of r ≡ true → f64_of r ≡ nan
+mark_is_nan (Some r) h = absurd (false≢true h)
+mark_is_nan None h = refl

@@ -97,6 +97,9 @@ normal bits h =
       power = omega arith;
     }
 
+-- all that `parts` rests on
+pub ruleset in_digits = (many_zeros, subnormal, normal)
+
 -- ---- what the integer root is taken of: one place more where the power of two is odd
 abbrev pub shifted : ℕ → ℕ → ℕ
 shifted q e = q * 2 ^ (e % 2) % 2 ^ 64

@@ -6,11 +6,9 @@
 -- there is no even or odd exponent, no subnormal case and no fraction. Definitions only;
 -- `proofs/Nearest.antt` proves that no f64 is nearer to the exact root.
 use Prim.Native.Nat.{ℕ, zero, suc, ◌+◌, ◌-◌, ◌*◌, ◌/◌, ◌^◌, ◌≤◌, ◌<◌, compare}
-use Rattle.std.specs.Prelude.{Bool, true, false, cond, leb, eqb, Float}
+use Rattle.std.specs.Prelude.{Bool, true, false, cond, leb, eqb, Float, Option, Some, None}
 use Rattle.std.specs.Float.{nan, inf, fin, binary64}
 use Rattle.std.specs.Float.Ieee.{prec, up, down, size, nearest, units}
-use Rattle.sqrt.specs.declared.SquareRoot.{SquareRoot}
-use Rattle.sqrt.specs.declared.SquareRoot.TheVariants.{Root, Mark}
 
 -- r is the whole part of √n.
 pub record IsRoot (n r : ℕ) : Type 0 where
@@ -53,22 +51,22 @@ unfoldable pub radicand : Float → ℕ
 unfolding units_in
 radicand x = units_in x * 2 ^ 1074
 
--- The square root: each zero has itself, -0 too, and so has infinity; a number below zero and a NaN have a mark.
-unfoldable pub square_root_of : Float → SquareRoot
+-- The square root: each zero has itself, -0 too, and so has infinity; a number below zero and a NaN have none.
+unfoldable pub square_root_of : Float → Option Float
 unfolding nearest_root radicand
-square_root_of nan = Mark
-square_root_of (inf s) = cond s Mark (Root (inf s))
+square_root_of nan = None
+square_root_of (inf s) = cond s None (Some (inf s))
 square_root_of (fin s m e) =
-    cond (eqb m 0) (Root (fin s m e)) (cond s Mark (Root (nearest_root (radicand (fin s m e)))))
+    cond (eqb m 0) (Some (fin s m e)) (cond s None (Some (nearest_root (radicand (fin s m e)))))
 
 -- the f64 that goes on into the formulas
-abbrev pub f64_of : SquareRoot → Float
-f64_of (Root r) = r
-f64_of Mark = nan
+abbrev pub f64_of : Option Float → Float
+f64_of (Some r) = r
+f64_of None = nan
 
-abbrev pub is_mark_of : SquareRoot → Bool
-is_mark_of (Root r) = false
-is_mark_of Mark = true
+abbrev pub is_mark_of : Option Float → Bool
+is_mark_of (Some r) = false
+is_mark_of None = true
 
 -- the square root as IEEE 754 and the Rust have it: NaN where there is a mark
 unfoldable pub sqrt_of : Float → Float

@@ -4,6 +4,7 @@ ghost use Rattle.sqrt.specs.Sqrt.{IsRoot};
 ghost use Rattle.sqrt.specs.Steps.{Radicand, Guess, Follows};
 
 // One step of Newton's method.
+#[tactic(auto, using(crate::proofs::Newton::follows))]
 fn step(a: u64, h: u64) -> u64
     requires radicand { Radicand a }
     requires guess { Guess h }
@@ -35,6 +36,7 @@ fn root27(a: u64) -> u64
 }
 
 // The whole part of the root of a * 2^54: 27 more digits, by one division.
+#[tactic(auto, using(crate::proofs::Halves::halves, crate::proofs::Halves::kept))]
 pub fn root54(a: u64) -> u64
     requires { Radicand a }
     ensures { IsRoot (a * 2 ^ 54) result }

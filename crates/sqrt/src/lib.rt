@@ -9,44 +9,35 @@ ghost use Rattle.sqrt.specs.Sqrt.{square_root_of, f64_of, is_mark_of, sqrt_of};
 
 use self::parts::root_bits;
 
-// A root, or the mark that the argument is below zero or NaN.
-#[derive(Clone, Copy)]
-pub enum SquareRoot {
-    Root(f64),
-    Mark,
-}
-
-pub fn sqrt(x: f64) -> SquareRoot
+// A root, or None, the mark that the argument is below zero or NaN.
+#[tactic(auto, using(crate::proofs::Cases::has_root, crate::proofs::Cases::has_mark))]
+pub fn sqrt(x: f64) -> Option<f64>
     ensures { result ≡ square_root_of x }
 {
     // -0 is not below zero
     if x >= 0.0 {
-        SquareRoot::Root(sqrt_unmarked(x))
+        Some(sqrt_unmarked(x))
     } else {
-        SquareRoot::Mark
+        None
     }
 }
 
 // What goes on into the formulas: from a mark, NaN.
-pub fn to_f64(root: SquareRoot) -> f64
+#[tactic(auto, using(crate::proofs::Cases::or_nan))]
+pub fn to_f64(root: Option<f64>) -> f64
     ensures { result ≡ f64_of root }
 {
-    match root {
-        SquareRoot::Root(r) => r,
-        SquareRoot::Mark => 0.0 / 0.0,
-    }
+    root.unwrap_or(f64::NAN)
 }
 
-pub fn is_mark(root: SquareRoot) -> bool
+pub fn is_mark(root: Option<f64>) -> bool
     ensures { result ≡ is_mark_of root }
 {
-    match root {
-        SquareRoot::Root(_) => false,
-        SquareRoot::Mark => true,
-    }
+    root.is_none()
 }
 
 // The same as an f64, NaN where there is no root: for those that carry no mark, the quartic's.
+#[tactic(auto, using(crate::proofs::Cases::ways_out))]
 pub fn sqrt_unmarked(x: f64) -> f64
     ensures { result ≡ sqrt_of x }
 {
@@ -61,6 +52,6 @@ pub fn sqrt_unmarked(x: f64) -> f64
     } else if x == 0.0 {
         x // -0 stays -0
     } else {
-        0.0 / 0.0
+        f64::NAN
     }
 }

@@ -12,6 +12,7 @@ struct Number {
     e: u64,
 }
 
+#[tactic(auto, using(crate::proofs::Shifted::in_digits))]
 fn parts(bits: u64) -> Number
     requires { 0 < bits }
     ensures { Digits bits result.q result.e }
@@ -32,6 +33,7 @@ fn parts(bits: u64) -> Number
 }
 
 // The bits of the nearest f64 to the root.
+#[tactic(auto, using(crate::proofs::Shifted::shifted_radicand))]
 pub fn root_bits(bits: u64) -> u64
     requires { (0 < bits) × (bits < 0x7ff0_0000_0000_0000) }
     ensures { RootBits bits result }

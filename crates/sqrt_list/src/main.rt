@@ -5,7 +5,7 @@
 #![tactic(auto)]
 
 use digits::{byte_to_digits, from_digits, to_digits};
-use sqrt::{SquareRoot, is_mark, sqrt, to_f64};
+use sqrt::{is_mark, sqrt, to_f64};
 use std::io;
 use std::io::{ErrorKind, Read, Write};
 
@@ -13,7 +13,7 @@ fn number(line: &[u8; 17]) -> digits::Read {
     from_digits(line, 0)
 }
 
-fn send_root(output: &mut impl Write, root: SquareRoot) -> io::Result<()> {
+fn send_root(output: &mut impl Write, root: Option<f64>) -> io::Result<()> {
     let mut mark = 0u8;
     if is_mark(root) {
         mark = 1;

@@ -1,34 +1,17 @@
--- `positive_set::PositiveSet::sorted` is `sorted_of` of what the set holds, by its length. Assumes nothing.
-use native.Mathlib.Omega.{arith}
-use Rattle.positive_set.specs.Set.{sorted_of}
-use Rattle.positive_set.proofs.Sets.{held}
+-- The last numbers first, each in its place, by `proofs/Places.antt`. Assumes nothing.
+use Rattle.positive_set.proofs.Places.{none_done, free_place, one_more, all_done}
 use Rattle.positive_set.proofs.PositiveSet.sorted.Goals as goal
 
-pub returns-in-0 : goal.returns-in-0
-unfolding sorted_of
-returns-in-0 c =
-    rw (c.set0.ensures, (held c.args.self c.well_formed.0.1.1.0.1.0.1).at0 c.in-0.is)
+pub with-set-requires : goal.with-set-requires
+with-set-requires c = free_place _ _ c.loop-x.invariant c.in-Some.ensures.steps
 
-pub returns-in-1 : goal.returns-in-1
-unfolding sorted_of
-returns-in-1 c =
-    rw (c.set1.ensures, (held c.args.self c.well_formed.0.1.1.0.1.0.1).at1 c.in-1.is)
+pub loop-x-init : goal.loop-x-init
+loop-x-init c = rw (c.into_iter-x-iterator.ensures.into_iter_gives, c.rev-x-items.ensures.source, c.iter.ensures.rest)
+    (none_done c.args.self.«data» c.args.self.len c.min.result c.well_formed.0.1.1.0.1.0.1 c.min.ensures
+    c.new-set.ensures)
 
-pub returns-in-2 : goal.returns-in-2
-unfolding sorted_of
-returns-in-2 c =
-    rw (c.into1.ensures, (held c.args.self c.well_formed.0.1.1.0.1.0.1).at2 c.in-2.is)
+pub loop-x-preserved : goal.loop-x-preserved
+loop-x-preserved c = one_more _ _ c.loop-x.invariant c.in-Some.ensures.steps c.with-set.ensures
 
-pub returns-in-3 : goal.returns-in-3
-unfolding sorted_of
-returns-in-3 c =
-    rw (c.sort3.ensures, (held c.args.self c.well_formed.0.1.1.0.1.0.1).at3 c.in-3.is)
-
-pub returns-in_default : goal.returns-in_default
-unfolding sorted_of
-returns-in_default c =
-    rw (
-      c.sort4.ensures,
-      (held c.args.self c.well_formed.0.1.1.0.1.0.1).full
-          ((((tt, λ e. omega arith), λ e. omega arith), λ e. omega arith), λ e. omega arith),
-    )
+pub returns : goal.returns
+returns c = all_done c.loop-x.invariant c.in-None.ensures.steps.0
