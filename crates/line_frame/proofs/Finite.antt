@@ -1,57 +1,39 @@
--- What reading the numbers of a frame says: where it says yes they are finite and those of the frame,
--- where it says no they are not finite.
+-- What reading the numbers of a frame says: where there are some they are finite and those of the frame,
+-- where there are none they are not finite.
 -- Assumes nothing.
-use mathlib.Core.Path.{◌≡◌, refl, sym, ap, ◌∙◌}
-use mathlib.Core.Bool.{Bool, true, false, cond, true≢false}
-use Rattle.line_frame.specs.declared.FiniteCheck.{FiniteCheck}
-use Rattle.line_frame.specs.declared.FiniteMove.{FiniteMove}
+use mathlib.Core.Path.{◌≡◌, refl}
+use mathlib.Core.Bool.{Bool, true, false, cond}
+use Rattle.std.specs.Prelude.{Some, None}
+use Rattle.step2_solver.specs.declared.Move.{Move}
+use Rattle.line_frame.specs.declared.CheckNumbers.{CheckNumbers}
 use Rattle.line_frame.specs.Frame.{Frame}
-use Rattle.line_frame.specs.Numbers.{check_numbers_of, zero_check_of, check_finite, finite_check_of}
-use Rattle.line_frame.specs.Numbers.{move_of, zero_move_of, move_finite, finite_move_of}
+use Rattle.line_frame.specs.Numbers.{check_numbers_of, check_finite, finite_check_of}
+use Rattle.line_frame.specs.Numbers.{move_of, move_finite, finite_move_of}
 
--- over any record of a verdict and numbers
-module _ {R X : Type 0} (ok : R → Bool) (x : R → X) (b : Bool) (m y n : R) (oy : ok y ≡ true) (on : ok n ≡ false)
-    (e : m ≡ cond b y n) where
-  read : ok m ≡ true → (b ≡ true) × (x m ≡ x y)
-  read h = by b e
-    where
-      by : (b : Bool) → m ≡ cond b y n → (b ≡ true) × (x m ≡ x y)
-      by true e = (refl, ap x e)
-      by false e = absurd (true≢false (sym h ∙ ap ok e ∙ on))
+-- over any numbers and any verdict on them
+module _ {X : Type 0} where
+  read : {x y : X} (b : Bool) → Some x ≡ cond b (Some y) None → (b ≡ true) × (x ≡ y)
+  read true e = (refl, cc)
+  read false e = cc
 
-  unread : ok m ≡ false → b ≡ false
-  unread h = by b e
-    where
-      by : (b : Bool) → m ≡ cond b y n → b ≡ false
-      by true e = absurd (true≢false (sym oy ∙ sym (ap ok e) ∙ h))
-      by false e = refl
+  unread : (y : X) (b : Bool) → None ≡ cond b (Some y) None → b ≡ false
+  unread y true e = cc
+  unread y false e = refl
 
-module _ (at : Frame) (m : FiniteCheck) (e : m ≡ finite_check_of at) where
-  abbrev yes_check : FiniteCheck
-  yes_check = record { ok = true; x = check_numbers_of at }
-
-  abbrev no_check : FiniteCheck
-  no_check = record { ok = false; x = zero_check_of }
-
-  pub check_read : m.ok ≡ true → (check_finite at ≡ true) × (m.x ≡ check_numbers_of at)
+module _ (at : Frame) where
+  pub check_read : {x : CheckNumbers} → Some x ≡ finite_check_of at
+      → (check_finite at ≡ true) × (x ≡ check_numbers_of at)
   unfolding finite_check_of
-  check_read = read (λ r. r.ok) (λ r. r.x) (check_finite at) m yes_check no_check refl refl e
+  check_read = read (check_finite at)
 
-  pub check_unread : m.ok ≡ false → check_finite at ≡ false
+  pub check_unread : None ≡ finite_check_of at → check_finite at ≡ false
   unfolding finite_check_of
-  check_unread = unread (λ r. r.ok) (λ r. r.x) (check_finite at) m yes_check no_check refl refl e
+  check_unread = unread (check_numbers_of at) (check_finite at)
 
-module _ (at : Frame) (m : FiniteMove) (e : m ≡ finite_move_of at) where
-  abbrev yes_move : FiniteMove
-  yes_move = record { ok = true; x = move_of at }
-
-  abbrev no_move : FiniteMove
-  no_move = record { ok = false; x = zero_move_of }
-
-  pub move_read : m.ok ≡ true → (move_finite at ≡ true) × (m.x ≡ move_of at)
+  pub move_read : {x : Move} → Some x ≡ finite_move_of at → (move_finite at ≡ true) × (x ≡ move_of at)
   unfolding finite_move_of
-  move_read = read (λ r. r.ok) (λ r. r.x) (move_finite at) m yes_move no_move refl refl e
+  move_read = read (move_finite at)
 
-  pub move_unread : m.ok ≡ false → move_finite at ≡ false
+  pub move_unread : None ≡ finite_move_of at → move_finite at ≡ false
   unfolding finite_move_of
-  move_unread = unread (λ r. r.ok) (λ r. r.x) (move_finite at) m yes_move no_move refl refl e
+  move_unread = unread (move_of at) (move_finite at)

@@ -1,11 +1,8 @@
 -- The numbers of a frame by their names, and its root answers. Definitions only.
-use Rattle.std.specs.Prelude.{Bool, true, false, cond, [], ◌∷◌, ℕ, ◌+◌, eqb}
-use Rattle.float.specs.Ops.{#0}
+use Rattle.std.specs.Prelude.{Bool, cond, ℕ, ◌+◌, eqb, Option, Some, None}
 use Rattle.roots.specs.declared.RootAnswer.{RootAnswer}
 use Rattle.roots.specs.declared.RootAnswer.TheVariants.{CubeRoot, Resolved}
 use Rattle.line_frame.specs.declared.CheckNumbers.{CheckNumbers}
-use Rattle.line_frame.specs.declared.FiniteCheck.{FiniteCheck}
-use Rattle.line_frame.specs.declared.FiniteMove.{FiniteMove}
 use Rattle.step2_solver.specs.declared.Move.{Move}
 use Rattle.line_frame.specs.Frame.{Frame, number_at, numbers_at, all_finite_of}
 
@@ -52,48 +49,12 @@ check_finite at = all_finite_of (numbers_at at 60 11)
 abbrev pub move_finite : Frame → Bool
 move_finite at = all_finite_of (numbers_at at 1 12)
 
--- The numbers with the answer to question 6; where one that is asked is not finite, zeros.
-abbrev pub zero_check_of : CheckNumbers
-zero_check_of =
-    record {
-      t = #0 ∷ #0 ∷ #0 ∷ #0 ∷ #0 ∷ #0 ∷ #0 ∷ [];
-      p0 = #0;
-      v0 = #0;
-      a0 = #0;
-      pf = #0;
-      vf = #0;
-      af = #0;
-      jf = #0;
-      v_max = #0;
-      v_min = #0;
-      a_max = #0;
-      a_min = #0;
-    }
+-- The numbers with the answer to question 6: none where one that is asked is not finite.
+unfoldable pub finite_check_of : Frame → Option CheckNumbers
+finite_check_of at = cond (check_finite at) (Some (check_numbers_of at)) None
 
-abbrev pub zero_move_of : Move
-zero_move_of =
-    record {
-      tf = #0;
-      p0 = #0;
-      v0 = #0;
-      a0 = #0;
-      pf = #0;
-      vf = #0;
-      af = #0;
-      v_max = #0;
-      v_min = #0;
-      a_max = #0;
-      a_min = #0;
-      j_max = #0;
-    }
-
-unfoldable pub finite_check_of : Frame → FiniteCheck
-finite_check_of at =
-    cond (check_finite at) (record { ok = true; x = check_numbers_of at }) (record { ok = false; x = zero_check_of })
-
-unfoldable pub finite_move_of : Frame → FiniteMove
-finite_move_of at =
-    cond (move_finite at) (record { ok = true; x = move_of at }) (record { ok = false; x = zero_move_of })
+unfoldable pub finite_move_of : Frame → Option Move
+finite_move_of at = cond (move_finite at) (Some (move_of at)) None
 
 -- The root answer from place i on: a count and three numbers. Count 0 means that the first number is the cube root.
 unfoldable pub root_answer_of : Frame → ℕ → RootAnswer

@@ -6,8 +6,8 @@ mod reading;
 ghost use Rattle.std.specs.Prelude.{◌≡◌, true, ◌+◌, ◌≤◌};
 ghost use Rattle.line_kinds.specs.Kinds.{frame_most};
 ghost use Rattle.line_frame.specs.Frame.{byte_at};
-ghost use Rattle.line_frame.specs.Numbers.{check_numbers_of, zero_check_of, check_finite, finite_check_of};
-ghost use Rattle.line_frame.specs.Numbers.{move_of, zero_move_of, move_finite, finite_move_of};
+ghost use Rattle.line_frame.specs.Numbers.{check_numbers_of, check_finite, finite_check_of};
+ghost use Rattle.line_frame.specs.Numbers.{move_of, move_finite, finite_move_of};
 ghost use Rattle.line_frame.specs.Numbers.{root_answer_of, first_answer_of, second_answer_of};
 
 use line_kinds::FRAME;
@@ -16,7 +16,7 @@ use roots::{RootAnswer, Three};
 use step2_solver::Move;
 
 // Kind 00's.
-#[derive(Clone, Copy)]
+#[derive(Clone, Copy, Default)]
 pub struct CheckNumbers {
     pub t: [f64; 7],
     pub p0: f64,
@@ -32,58 +32,7 @@ pub struct CheckNumbers {
     pub a_min: f64,
 }
 
-// Whether the eleven numbers after the times are finite, and these with the times; zeros where they are not.
-#[derive(Clone, Copy)]
-pub struct FiniteCheck {
-    pub ok: bool,
-    pub x: CheckNumbers,
-}
-
-// Whether the twelve numbers of a frame are finite, and the numbers; zeros where they are not.
-#[derive(Clone, Copy)]
-pub struct FiniteMove {
-    pub ok: bool,
-    pub x: Move,
-}
-
-fn zero_check() -> CheckNumbers
-    ensures { result ≡ zero_check_of }
-{
-    CheckNumbers {
-        t: [0.0; 7],
-        p0: 0.0,
-        v0: 0.0,
-        a0: 0.0,
-        pf: 0.0,
-        vf: 0.0,
-        af: 0.0,
-        jf: 0.0,
-        v_max: 0.0,
-        v_min: 0.0,
-        a_max: 0.0,
-        a_min: 0.0,
-    }
-}
-
-fn zero_move() -> Move
-    ensures { result ≡ zero_move_of }
-{
-    Move {
-        tf: 0.0,
-        p0: 0.0,
-        v0: 0.0,
-        a0: 0.0,
-        pf: 0.0,
-        vf: 0.0,
-        af: 0.0,
-        v_max: 0.0,
-        v_min: 0.0,
-        a_max: 0.0,
-        a_min: 0.0,
-        j_max: 0.0,
-    }
-}
-
+#[tactic(auto, unfolding(crate::specs::Numbers::move_of))]
 fn move_at(frame: &[u8; FRAME]) -> Move
     requires { move_finite (byte_at frame.now) ≡ true }
     ensures { result ≡ move_of (byte_at frame.now) }
@@ -104,6 +53,7 @@ fn move_at(frame: &[u8; FRAME]) -> Move
     }
 }
 
+#[tactic(auto, unfolding(crate::specs::Numbers::check_numbers_of))]
 fn check_at(frame: &[u8; FRAME]) -> CheckNumbers
     requires { check_finite (byte_at frame.now) ≡ true }
     ensures { result ≡ check_numbers_of (byte_at frame.now) }
@@ -124,40 +74,31 @@ fn check_at(frame: &[u8; FRAME]) -> CheckNumbers
     }
 }
 
-// Kind 00: the eleven numbers after the times are to be finite; the times may be any.
-pub fn check_numbers(frame: &[u8; FRAME]) -> FiniteCheck
+// Kind 00's numbers, where the eleven after the times are finite; the times may be any.
+#[tactic(auto, unfolding(crate::specs::Numbers::finite_check_of))]
+pub fn check_numbers(frame: &[u8; FRAME]) -> Option<CheckNumbers>
     ensures { result ≡ finite_check_of (byte_at frame.now) }
 {
     if all_finite(frame, 60, 11) {
-        FiniteCheck {
-            ok: true,
-            x: check_at(frame),
-        }
+        Some(check_at(frame))
     } else {
-        FiniteCheck {
-            ok: false,
-            x: zero_check(),
-        }
+        None
     }
 }
 
-// The other kinds: the twelve numbers after the kind are to be finite.
-pub fn move_numbers(frame: &[u8; FRAME]) -> FiniteMove
+// The other kinds', where the twelve numbers after the kind are finite.
+#[tactic(auto, unfolding(crate::specs::Numbers::finite_move_of))]
+pub fn move_numbers(frame: &[u8; FRAME]) -> Option<Move>
     ensures { result ≡ finite_move_of (byte_at frame.now) }
 {
     if all_finite(frame, 1, 12) {
-        FiniteMove {
-            ok: true,
-            x: move_at(frame),
-        }
+        Some(move_at(frame))
     } else {
-        FiniteMove {
-            ok: false,
-            x: zero_move(),
-        }
+        None
     }
 }
 
+#[tactic(auto, unfolding(crate::specs::Numbers::root_answer_of))]
 fn root_answer(frame: &[u8; FRAME], at: usize) -> RootAnswer
     requires { at + 25 ≤ frame_most }
     ensures { result ≡ root_answer_of (byte_at frame.now) at }

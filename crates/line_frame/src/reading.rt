@@ -8,20 +8,14 @@ use float::from_bits;
 use line_kinds::FRAME;
 use number_bytes::{finite_bits, u64_from_be_bytes};
 
+#[tactic(auto, using(crate::proofs::Numbers::word_here))]
 fn word_at(frame: &[u8; FRAME], at: usize) -> u64
     requires { at + 8 ≤ frame_most }
     ensures { result ≡ word_at (byte_at frame.now) at }
 {
-    u64_from_be_bytes([
-        frame[at],
-        frame[at + 1],
-        frame[at + 2],
-        frame[at + 3],
-        frame[at + 4],
-        frame[at + 5],
-        frame[at + 6],
-        frame[at + 7],
-    ])
+    let mut bytes = [0u8; 8];
+    bytes.copy_from_slice(&frame[at..at + 8]);
+    u64_from_be_bytes(bytes)
 }
 
 pub fn number_at(frame: &[u8; FRAME], at: usize) -> f64
@@ -32,6 +26,7 @@ pub fn number_at(frame: &[u8; FRAME], at: usize) -> f64
 }
 
 // The same for a number that is known to be finite: no test for a NaN.
+#[tactic(auto, using(crate::proofs::Numbers::no_nan))]
 pub fn finite_at(frame: &[u8; FRAME], at: usize) -> f64
     requires at_bound { at + 8 ≤ frame_most }
     requires at_value { finite (number_at (byte_at frame.now) at) ≡ true }
@@ -60,9 +55,10 @@ pub fn all_finite(frame: &[u8; FRAME], at: usize, n: usize) -> bool
     requires { at + 8 * n ≤ frame_most }
     ensures { result ≡ all_finite_of (numbers_at (byte_at frame.now) at n) }
 {
+    let (words, _) = frame[at..at + 8 * n].as_chunks::<8>();
     let mut ok = true;
-    for i in 0..n {
-        ok = ok & finite_bits(word_at(frame, at + 8 * i));
+    for word in words {
+        ok &= finite_bits(u64_from_be_bytes(*word));
     }
     ok
 }
