@@ -20,7 +20,8 @@ returns-then-not-decode c =
     let h = c.in_ok-characters.ensures.cases in
     let k = c.in_ok-get.ensures.lookup.0 in
     refused c.args.line.now c.args.at (omega arith) c.decode.result c.decode.new.bytes
-    (placed c.args.line.now c.args.at c.in_ok-get.field-0.now c.in_ok-characters.characters.now k.2 h.same c.decode.ensures)
+    (placed c.args.line.now c.args.at c.in_ok-get.field-0.now c.in_ok-characters.characters.now k.2 h.same
+    c.decode.ensures)
     c.if-not-decode.true
 
 pub returns : goal.returns
@@ -29,5 +30,6 @@ returns c =
     let k = c.in_ok-get.ensures.lookup.0 in
     rw (c.from_bits.ensures, c.u64_from_be_bytes.ensures)
     (read c.args.line.now c.args.at (omega arith) c.decode.result c.decode.new.bytes
-    (placed c.args.line.now c.args.at c.in_ok-get.field-0.now c.in_ok-characters.characters.now k.2 h.same c.decode.ensures)
+    (placed c.args.line.now c.args.at c.in_ok-get.field-0.now c.in_ok-characters.characters.now k.2 h.same
+    c.decode.ensures)
     c.if-not-decode.false)
