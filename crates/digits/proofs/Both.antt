@@ -1,100 +1,76 @@
 -- The sixteen characters of a number, as they are read and as they are written. Assumes nothing.
 use mathlib.Core.Path.{◌≡◌, refl, ap, sym, ◌∙◌}
-use mathlib.Core.Bool.{Bool, true, false, ◌&&◌, and-true, and_assoc}
-use mathlib.Core.List.{List, [], ◌∷◌}
-use Prim.Native.Nat.{ℕ, ◌+◌, ◌-◌, ◌*◌, ◌^◌, ◌<◌, ◌≤◌}
-use native.Mathlib.Nat.{pow-le-pow_right, pow-succ', lt_of_lt_of_le}
-use native.Mathlib.Numerals.{add-one}
+use mathlib.Core.Bool.{Bool, true, false}
+use mathlib.Core.List.{List, [], ◌∷◌, append-nil}
+use Prim.Native.Nat.{ℕ, zero, suc, ◌+◌, ◌-◌, ◌*◌, ◌≤◌, ◌<◌}
 use native.Mathlib.Omega.{arith}
-use lib.Dec.{ltb}
-use lib.ListN.{length, take, drop, get_or, length-take, length-drop}
-use lib.Seq.{drop-cons, drop-length, get_or-take, get_or-drop}
+use lib.ListN.{length, take, drop, replicate, length-take, length-drop}
+use lib.Seq.{take_all}
 use lib.Ieee.{binary64, of_bits}
-use borrow.Author.Tests.{le-ltb, lt-ltb, ltb-true, ltb-false}
-use Rattle.hex_bytes.specs.Hex.{Filled, is_digit_of, all_digits_of, value_of, encode_of}
-use Rattle.hex_bytes.proofs.Digits.{value_lt}
+use borrow.Author.Tests.{le-ltb, lt-ltb}
+use Rattle.std.specs.Prelude.{Some, None}
+use Rattle.hex_bytes.specs.Hex.{Filled, all_digits_of, value_of, bytes_of, fill, decode_of, encode_of}
+use Rattle.hex_bytes.proofs.Turns.{length_bytes}
+use Rattle.number_bytes.specs.Bytes.{appended, word_of}
 use Rattle.digits.specs.Digits.{value_after, read_of}
+
+-- the bytes of digits stand for the number of the digits
+appended_digits : (cs : List ℕ) (w n : ℕ) → length cs ≡ 2 * n → appended w (bytes_of cs) ≡ value_after w cs
+appended_digits [] w n h = refl
+appended_digits (c ∷ []) w n h = absurd (omega arith)
+appended_digits (c ∷ d ∷ cs) w zero h = absurd (omega arith)
+appended_digits (c ∷ d ∷ cs) w (suc n) h =
+    let e : 256 * w + (16 * value_of c + value_of d) ≡ 16 * (16 * w + value_of c) + value_of d = omega arith in
+    let k : length cs ≡ 2 * n = omega arith in
+    rw e (appended_digits cs (16 * (16 * w + value_of c) + value_of d) n k)
+
+pub word_of_digits : (cs : List ℕ) → length cs ≡ 16 → word_of (bytes_of cs) ≡ value_after 0 cs
+word_of_digits cs h = appended_digits cs 0 8 h
 
 -- ---- a place of a line
 module _ (line : List ℕ) (at : ℕ) where
-  pub short : length line < at + 16 → record { ok = false; x = of_bits binary64 0 } ≡ read_of line at
+  pub few : length line < at + 16 → None ≡ read_of line at
   unfolding read_of
-  short h = rw (lt-ltb (length line) (at + 16) h)
-
-  pub few : ltb (length line - at) 16 ≡ true → length line < at + 16
-  few h = omega (arith, ltb-true (length line - at) 16 h)
-
-  pub enough : at ≤ length line → ltb (length line - at) 16 ≡ false → at + 16 ≤ length line
-  enough h k = omega (arith, ltb-false (length line - at) 16 k)
+  few h = rw (lt-ltb (length line) (at + 16) h)
 
   abbrev characters : List ℕ
   characters = take 16 (drop at line)
 
-  -- i characters are read: those left make the same of what is read as all of them of nothing
-  pub record Read_to (ok : Bool) (word i : ℕ) : Type 0 where
-    pub inside : at + 16 ≤ length line
-    pub count : i ≤ 16
-    pub small : word < 16 ^ i
-    pub bits : value_after word (drop i characters) ≡ value_after 0 characters
-    pub digits : ok && all_digits_of (drop i characters) ≡ all_digits_of characters
+  pub placed : (rest cs : List ℕ) → rest ≡ take (length line - at) (drop at line) → cs ≡ take 16 rest
+      → {f : Filled} → f ≡ decode_of cs (replicate 8 0) → f ≡ decode_of characters (replicate 8 0)
+  placed rest cs er ec d =
+      let all : take (length line - at) (drop at line) ≡ drop at line =
+      take_all (length line - at) (drop at line) (rw length-drop (omega arith)) in
+      d ∙ ap (λ (l : List ℕ). decode_of l (replicate 8 0)) (ec ∙ ap (λ (l : List ℕ). take 16 l) (er ∙ all))
 
-  pub start : at + 16 ≤ length line → Read_to true 0 0
-  start h = record { inside = h; count = omega arith; small = omega arith; bits = refl; digits = refl }
-
-  module _ (ok : Bool) (word i : ℕ) (r : Read_to ok word i) where
+  module _ (enough : at + 16 ≤ length line) where
     sixteen : length characters ≡ 16
-    sixteen = let h = r.inside in simp (length-take, length-drop) (omega arith)
+    sixteen = simp (length-take, length-drop) (omega arith)
 
-    abbrev c : ℕ
-    c = get_or line (at + i) 0
+    module _ (ok : Bool) (left : List ℕ)
+        (d : record { ok = ok; left = left } ≡ decode_of characters (replicate 8 0)) where
+      both : (ok ≡ all_digits_of characters) × (left ≡ bytes_of characters)
+      unfolding decode_of
+      both =
+          let e : record { ok = ok; left = left }
+          ≡ record { ok = all_digits_of characters; left = fill (bytes_of characters) (replicate 8 0) } =
+          d ∙ rw sixteen in
+          let long : length (bytes_of characters) ≡ 8 = length_bytes characters ∙ rw sixteen in
+          (ap (λ (f : Filled). f.ok) e, ap (λ (f : Filled). f.left) e ∙ rw long (append-nil (bytes_of characters)))
 
-    positive : 0 < 16
-    positive = omega arith
+      pub refused : ok ≡ false → None ≡ read_of line at
+      unfolding read_of
+      refused h = rw (le-ltb (length line) (at + 16) enough, sym both.0 ∙ h)
 
-    pub below_60 : i < 16 → word < 2 ^ 60
-    below_60 h = let k : i ≤ 15 = omega arith in lt_of_lt_of_le r.small (pow-le-pow_right positive k)
-
-    pub sum_fits : i < 16 → (v : ℕ) → v ≡ value_of c → 16 * word + v < 2 ^ 64
-    sum_fits h v e = let k = below_60 h in let l : v < 16 = rw e (value_lt c) in omega arith
-
-    split : i < 16 → drop i characters ≡ c ∷ drop (i + 1) characters
-    split h =
-        let k : i < length characters = omega (arith, sixteen) in
-        rw (add-one, drop-cons characters i 0) (rw (get_or-take, get_or-drop))
-
-    small_next : {v : ℕ} → word < 16 ^ i → v < 16 → 16 * word + v < 16 ^ (i + 1)
-    small_next h k = rw (add-one, pow-succ') (omega arith)
-
-    pub next : i < 16 → (v : ℕ) (o : Bool) → o ≡ is_digit_of c → v ≡ value_of c
-        → Read_to (ok && o) (16 * word + v) (i + 1)
-    next h v o eo ev =
-        record {
-          inside = r.inside;
-          count = omega arith;
-          small = small_next r.small (rw ev (value_lt c));
-          bits = rw ev (ap (value_after word) (sym (split h)) ∙ r.bits);
-          digits =
-              rw eo
-              (and_assoc ok (is_digit_of c) (all_digits_of (drop (i + 1) characters))
-              ∙ ap (λ (l : List ℕ). ok && all_digits_of l) (sym (split h))
-              ∙ r.digits);
-        }
-
-    pub done : 16 ≤ i → record { ok = ok; x = of_bits binary64 word } ≡ read_of line at
-    unfolding read_of
-    done h = rw (le-ltb (length line) (at + 16) r.inside, all, whole)
-      where
-        last : i ≡ length characters
-        last = let k = r.count in omega (arith, sixteen)
-
-        none : drop i characters ≡ []
-        none = rw last (drop-length characters)
-
-        all : ok ≡ all_digits_of characters
-        all = sym (and-true ok) ∙ ap (λ (l : List ℕ). ok && all_digits_of l) (sym none) ∙ r.digits
-
-        whole : word ≡ value_after 0 characters
-        whole = ap (value_after word) (sym none) ∙ r.bits
+      pub read : ok ≡ true → Some (of_bits binary64 (word_of left)) ≡ read_of line at
+      unfolding read_of
+      read h =
+          rw (
+            le-ltb (length line) (at + 16) enough,
+            sym both.0 ∙ h,
+            both.1,
+            word_of_digits characters sixteen,
+          )
 
 pub written : (bytes is left lent : List ℕ) (ok : Bool) → bytes ≡ is
     → record { ok = ok; left = left } ≡ encode_of bytes lent → left ≡ (encode_of is lent).left

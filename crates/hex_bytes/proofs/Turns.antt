@@ -173,5 +173,8 @@ pub encoded : (bytes lent : List ℕ)
     → map digit_of (nibbles_of bytes) ++ drop (2 * length bytes) lent ≡ fill (hex_of bytes) lent
 encoded bytes lent = rw (spelling bytes, length_hex bytes)
 
+-- what `encode` stands on
+pub ruleset encoding = (encoded, nibble_lt)
+
 pub decoded : (line lent : List ℕ) → bytes_of line ++ drop (length line / 2) lent ≡ fill (bytes_of line) lent
 decoded line lent = rw (length_bytes line)

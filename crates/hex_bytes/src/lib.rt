@@ -129,7 +129,7 @@ fn spell(places: &mut [u8])
     }
 }
 
-#[tactic(auto, using(crate::proofs::Turns::encoded, crate::proofs::Turns::nibble_lt), unfolding(crate::specs::Hex::encode_of))]
+#[tactic(auto, using(crate::proofs::Turns::encoding), unfolding(crate::specs::Hex::encode_of))]
 pub fn encode(bytes: &[u8], reply: &mut [u8]) -> bool
     ensures { record { ok = result; left = reply.new }
         ≡ encode_of bytes.now reply.old }

@@ -21,7 +21,8 @@ pub past : (part after : List ℕ) → fold none_so_far true part ≡ true
 past [] after h = sym (zero-add (line_length after))
 past (c ∷ part) after h = by (eqb c 10) (past part after) h
   where
-    by : (b : Bool) → (fold none_so_far true part ≡ true → line_length (part ++ after) ≡ length part + line_length after)
+    by : (b : Bool)
+        → (fold none_so_far true part ≡ true → line_length (part ++ after) ≡ length part + line_length after)
         → fold none_so_far (not b) part ≡ true
         → cond b 0 (suc (line_length (part ++ after))) ≡ suc (length part) + line_length after
     by true next e = absurd (true≢false (sym e ∙ fold_stays none_so_far false (λ x. refl) part))

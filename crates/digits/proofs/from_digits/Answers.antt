@@ -1,48 +1,35 @@
--- `from_digits` is `read_of`. The loop's measure is the count of characters that are left. Assumes nothing.
+-- `from_digits` is `read_of`. Assumes nothing.
+use mathlib.Core.Path.{◌∙◌}
+use mathlib.Core.Logic.{⊎_elim}
 use native.Mathlib.Omega.{arith}
-use Rattle.digits.proofs.Both.{short, start, below_60, sum_fits, next, done}
+use Rattle.digits.proofs.Both.{few, placed, refused, read}
 use Rattle.digits.proofs.from_digits.Goals as goal
-use Rattle.digits.proofs.from_digits.Goals.{then-n-at-via-then-n-at, then-n-at-via-else-n-at+then-n-at-lt16}
 
-pub returns-then-n-at : goal.returns-then-n-at
-returns-then-n-at c =
-    short c.args.line.now c.args.at
-    (elim c.then-n-at.branch
-    [ then-n-at-via-then-n-at w ↦ omega arith | then-n-at-via-else-n-at+then-n-at-lt16 w ↦ omega arith ])
+pub returns-in_err-get : goal.returns-in_err-get
+returns-in_err-get c =
+    c.from_residual.ensures
+    ∙ few c.args.line.now c.args.at (⊎_elim (λ h. omega arith) (λ h. omega arith) c.in_err-get.ensures.lookup.0)
 
-pub loop-i-init : goal.loop-i-init
-loop-i-init c = start c.args.line.now c.args.at (omega arith)
+pub returns-in_err-characters : goal.returns-in_err-characters
+returns-in_err-characters c =
+    c.from_residual-in_err-characters.ensures
+    ∙ few c.args.line.now c.args.at (omega (arith, c.in_err-characters.ensures.cases, c.in_ok-get.ensures.lookup.0))
 
-pub overflow_add-c : goal.overflow_add-c
-overflow_add-c c = omega (arith, c.loop-i.invariant.inside)
-
-pub bounds-line-at : goal.bounds-line-at
-bounds-line-at c = omega (arith, c.loop-i.invariant.inside)
-
-pub overflow_mul-word : goal.overflow_mul-word
-overflow_mul-word c =
-    omega (
-      arith,
-      below_60 c.args.line.now c.args.at c.loop-i.ok c.loop-i.word c.loop-i.i c.loop-i.invariant
-          c.loop-i-test.true,
-    )
-
-pub overflow_add-word : goal.overflow_add-word
-overflow_add-word c =
-    omega (
-      arith,
-      sum_fits c.args.line.now c.args.at c.loop-i.ok c.loop-i.word c.loop-i.i c.loop-i.invariant c.loop-i-test.true
-          c.value.result
-          c.value.ensures,
-    )
-
-pub loop-i-preserved : goal.loop-i-preserved
-loop-i-preserved c =
-    next c.args.line.now c.args.at c.loop-i.ok c.loop-i.word c.loop-i.i c.loop-i.invariant c.loop-i-test.true
-    c.value.result
-    c.is_digit-ok.result c.is_digit-ok.ensures c.value.ensures
+pub returns-then-not-decode : goal.returns-then-not-decode
+returns-then-not-decode c =
+    let h = c.in_ok-characters.ensures.cases in
+    let k = c.in_ok-get.ensures.lookup.0 in
+    refused c.args.line.now c.args.at (omega arith) c.decode.result c.decode.new.bytes
+    (placed c.args.line.now c.args.at c.in_ok-get.field-0.now c.in_ok-characters.characters.now k.2 h.same
+    c.decode.ensures)
+    c.if-not-decode.true
 
 pub returns : goal.returns
 returns c =
-    rw c.from_bits.ensures
-    (done c.args.line.now c.args.at c.loop-i.ok c.loop-i.word c.loop-i.i c.loop-i.invariant c.loop-i-test.false)
+    let h = c.in_ok-characters.ensures.cases in
+    let k = c.in_ok-get.ensures.lookup.0 in
+    rw (c.from_bits.ensures, c.u64_from_be_bytes.ensures)
+    (read c.args.line.now c.args.at (omega arith) c.decode.result c.decode.new.bytes
+    (placed c.args.line.now c.args.at c.in_ok-get.field-0.now c.in_ok-characters.characters.now k.2 h.same
+    c.decode.ensures)
+    c.if-not-decode.false)
