@@ -13,6 +13,7 @@ use profile::in_place::Verdict;
 use row::NUMBERS;
 
 #[unsafe(no_mangle)]
+#[tactic(auto, using(bench_labels::proofs::Left::left), unfolding(profile::specs::Parts::profile_in))]
 pub extern "C" fn bench_check_by_value(
     x: &mut [f64; NUMBERS],
     signs: u8,
@@ -38,10 +39,9 @@ pub extern "C" fn bench_check_by_value(
         a_max,
         a_min,
     );
-    let next = checked.profile;
-    *x = next.row();
+    *x = checked.profile.row();
     answer_number(Verdict {
         ok: checked.ok,
-        labels: next.labels(),
+        labels: checked.profile.labels(),
     })
 }
