@@ -13,6 +13,7 @@ use profile::in_place::Verdict;
 use row::NUMBERS;
 
 #[unsafe(no_mangle)]
+#[tactic(auto, using(bench_labels::proofs::Left::left), unfolding(profile::specs::Parts::profile_in))]
 pub extern "C" fn bench_check_by_value(
     x: &mut [f64; NUMBERS],
     signs: u8,
@@ -38,6 +39,7 @@ pub extern "C" fn bench_check_by_value(
         a_max,
         a_min,
     );
+    // Stays: a name for the record left: with `checked.profile` written out twice a call takes 115 ns in place of 112.
     let next = checked.profile;
     *x = next.row();
     answer_number(Verdict {

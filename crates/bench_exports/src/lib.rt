@@ -19,6 +19,7 @@ pub extern "C" fn bench_square_root(x: f64) -> f64
 }
 
 #[unsafe(no_mangle)]
+#[tactic(auto, using(bench_labels::proofs::Left::left), unfolding(profile::specs::Parts::profile_in))]
 pub extern "C" fn bench_check_in_place(
     x: &mut [f64; NUMBERS],
     signs: u8,

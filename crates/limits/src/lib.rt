@@ -21,27 +21,6 @@ const V_PRECISION: f64 = 1e-8;
 
 const A_PRECISION: f64 = 1e-10;
 
-// Places of a row that are looked at: a[1] is A1.
-const A1: usize = A + 1;
-
-const A3: usize = A + 3;
-
-const A5: usize = A + 5;
-
-const A7: usize = A + 7;
-
-const V3: usize = V + 3;
-
-const V4: usize = V + 4;
-
-const V5: usize = V + 5;
-
-const V6: usize = V + 6;
-
-const V7: usize = V + 7;
-
-const P7: usize = P + 7;
-
 #[derive(Clone, Copy)]
 pub struct Band {
     pub low: f64,
@@ -79,14 +58,17 @@ fn within(x: f64, band: Band) -> bool
 fn accelerations_kept(x: &[f64; NUMBERS], band: Band) -> bool
     ensures { result ≡ accelerations_kept_of (numbers_in x.now).nodes band }
 {
-    within(x[A1], band) & within(x[A3], band) & within(x[A5], band)
+    within(x[A + 1], band) & within(x[A + 3], band) & within(x[A + 5], band)
 }
 
 #[tactic(auto, using(row::proofs::Rows::part_at), unfolding(crate::specs::Limits::velocities_kept_of))]
 fn velocities_kept(x: &[f64; NUMBERS], band: Band) -> bool
     ensures { result ≡ velocities_kept_of (numbers_in x.now).nodes band }
 {
-    within(x[V3], band) & within(x[V4], band) & within(x[V5], band) & within(x[V6], band)
+    within(x[V + 3], band)
+        & within(x[V + 4], band)
+        & within(x[V + 5], band)
+        & within(x[V + 6], band)
 }
 
 // All are looked at before any is told from the others: most moves that get here pass.
@@ -118,9 +100,9 @@ pub fn ended(x: &[f64; NUMBERS], a_band: Band, v_band: Band) -> Cause
         a_band v_band) }
 {
     first_failing(
-        near(x[P7] - x[PF], P_PRECISION),
-        near(x[V7] - x[VF], V_PRECISION),
-        near(x[A7] - x[AF], A_PRECISION),
+        near(x[P + 7] - x[PF], P_PRECISION),
+        near(x[V + 7] - x[VF], V_PRECISION),
+        near(x[A + 7] - x[AF], A_PRECISION),
         accelerations_kept(x, a_band),
         velocities_kept(x, v_band),
     )

@@ -1,5 +1,5 @@
 // The reply of kinds 00 to 05 and 08: a verdict and the whole record.
-ghost use Rattle.std.specs.Prelude.{◌≡◌, cond};
+ghost use Rattle.std.specs.Prelude.{◌≡◌};
 ghost use Rattle.std.proofs.lemmas.List.Edits.{sets};
 ghost use Rattle.profile.specs.Parts.{checked_in};
 ghost use Rattle.line_reply.specs.Reply.{head_of, reply_bytes_of};
@@ -9,20 +9,15 @@ use profile::in_place::Verdict;
 use row::NUMBERS;
 
 // Verdict, label, direction and signs.
+#[tactic(auto, unfolding(crate::specs::Reply::head_of))]
 fn put_head(bytes: &mut [u8; 364], answer: Verdict)
     ensures { bytes.new ≡ sets bytes.old 0 (head_of answer) }
 {
     let labels = answer.labels;
-    bytes[0] = verdict(answer.ok);
+    bytes[0] = u8::from(answer.ok);
     bytes[1] = u8::from(labels.limits);
     bytes[2] = u8::from(labels.direction);
     bytes[3] = u8::from(labels.control_signs);
-}
-
-fn verdict(ok: bool) -> u8
-    ensures { result ≡ cond ok 1 0 }
-{
-    if ok { 1 } else { 0 }
 }
 
 // The head, and the six rows one by one: a loop over all 45 numbers takes longer.

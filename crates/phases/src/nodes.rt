@@ -9,13 +9,6 @@ use super::replacing::Replacing;
 use limits::Band;
 use row::{A, J, NUMBERS, P, V};
 
-// Where the node after phase 0 stands.
-const A1: usize = A + 1;
-
-const V1: usize = V + 1;
-
-const P1: usize = P + 1;
-
 // Where a phase begins is kept in numbers: read back from the row it would cost a store and a load each.
 // Stays: an index over the phases, since phase i reads two places of the row and writes three others, and asks which
 // phase it is (`zero_inside`, `replaced`): an iterator would need five slices of the one row side by side.
@@ -33,9 +26,9 @@ pub fn nodes(x: &mut [f64; NUMBERS], replacing: Replacing, band: Band) -> bool
         p0 = next.p;
         v0 = next.v;
         a0 = next.a;
-        x[P1 + i] = p0;
-        x[V1 + i] = v0;
-        x[A1 + i] = a0;
+        x[P + 1 + i] = p0;
+        x[V + 1 + i] = v0;
+        x[A + 1 + i] = a0;
         if !next.ok {
             return false;
         }

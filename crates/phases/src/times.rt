@@ -12,10 +12,6 @@ use row::{NUMBERS, T_SUM};
 
 const T_MAX: f64 = 1e12;
 
-const T_SUM1: usize = T_SUM + 1;
-
-const TOTAL: usize = T_SUM + 6;
-
 // Stays: an index over the sums, since each is read back from the row as the one before: an iterator over it would have
 // to lend two places at once, the one read and the one written.
 pub fn sums(x: &mut [f64; NUMBERS]) -> bool
@@ -31,7 +27,7 @@ pub fn sums(x: &mut [f64; NUMBERS]) -> bool
         if next < 0.0 {
             return false;
         }
-        x[T_SUM1 + i] = x[T_SUM + i] + next;
+        x[T_SUM + 1 + i] = x[T_SUM + i] + next;
     }
     true
 }
@@ -65,6 +61,6 @@ pub fn refusal(tests: Tests, x: &[f64; NUMBERS]) -> Cause
         tests.t3 & (x[3] < f64::EPSILON),
         tests.t1 & (x[1] < f64::EPSILON),
         tests.t5 & (x[5] < f64::EPSILON),
-        x[TOTAL] > T_MAX,
+        x[T_SUM + 6] > T_MAX,
     )
 }

@@ -22,9 +22,7 @@ pub fn set_boundary(
     ensures { p.new
         ≡ boundary_of p0_new v0_new a0_new pf_new vf_new af_new p.old }
 {
-    let q = *p;
-    let r = q.set_boundary(p0_new, v0_new, a0_new, pf_new, vf_new, af_new);
-    *p = r;
+    *p = p.set_boundary(p0_new, v0_new, a0_new, pf_new, vf_new, af_new);
 }
 
 pub fn check(
@@ -41,8 +39,7 @@ pub fn check(
     ensures { record { ok = result; profile = p.new } ≡ check_of control_signs limits set_limits
         jf v_max v_min a_max a_min p.old }
 {
-    let q = *p;
-    let c = q.check(
+    let checked = p.check(
         control_signs,
         limits,
         set_limits,
@@ -52,8 +49,8 @@ pub fn check(
         a_max,
         a_min,
     );
-    *p = c.profile;
-    c.ok
+    *p = checked.profile;
+    checked.ok
 }
 
 pub fn check_with_timing(
@@ -70,8 +67,7 @@ pub fn check_with_timing(
     ensures { record { ok = result; profile = p.new }
         ≡ timing_of control_signs limits jf v_max v_min a_max a_min marked p.old }
 {
-    let q = *p;
-    let timed = q.check_with_timing(
+    let timed = p.check_with_timing(
         control_signs,
         limits,
         jf,

@@ -28,4 +28,4 @@ returns c =
     (ap (λ (k : ℕ). 2 * k) (record_length c.args.x.now c.args.answer row)) refl c.if-reply-lt-CAUSES.false
     c.write_record.new.reply
     (filled record_places first c.args.reply.now _ c.write_record.result (omega arith) c.write_record.ensures)
-    c.encode.new.reply c.encode.result (rw (← c.cause_number.ensures) c.encode.ensures)
+    c.encode.new.reply c.encode.result (rw (← c.from.ensures) c.encode.ensures)

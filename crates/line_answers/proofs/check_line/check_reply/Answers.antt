@@ -15,4 +15,4 @@ returns c =
     c.write_record.ensures
     ∙ ap (λ (y : Checked). written_of record_places (reply_bytes_of y) lent)
     (checked c.start_labels.ensures (byte_at c.args.frame.now) c.args.x c.start-row.ensures
-    c.set_times.ensures c.signs.ensures c.label.ensures c.check-answer.ensures)
+    c.set_times.ensures c.from.ensures c.from-2.ensures c.check-answer.ensures)
