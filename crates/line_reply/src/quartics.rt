@@ -5,7 +5,7 @@ ghost use Rattle.std.proofs.lemmas.List.Edits.{sets};
 ghost use Rattle.line_reply.specs.Reply.{quartic_bytes};
 
 use super::stores::put_row;
-use roots::{need_number, quartic_need, resolvent_arguments};
+use roots::{quartic_need, resolvent_arguments};
 
 fn put_quartic(bytes: &mut [u8], at: usize, p: [f64; 4])
     requires { at + 57 ≤ length bytes.old }
@@ -13,7 +13,7 @@ fn put_quartic(bytes: &mut [u8], at: usize, p: [f64; 4])
 {
     let r = resolvent_arguments(p[0], p[1], p[2], p[3]);
     let row = [p[0], p[1], p[2], p[3], r.x0, r.x1, r.x2];
-    bytes[at] = need_number(quartic_need(p[0], p[1], p[2], p[3]));
+    bytes[at] = u8::from(quartic_need(p[0], p[1], p[2], p[3]));
     put_row(bytes, at + 1, &row);
 }
 

@@ -1,3 +1,4 @@
--- Worked quartics; what holds of all roots.
+-- Worked quartics; what holds of all roots; and, for the code, the branches by need.
 pub mod Examples
 pub mod Laws
+mod Needs

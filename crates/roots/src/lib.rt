@@ -12,10 +12,8 @@ use float::{abs, near, pick};
 use positive_set::PositiveSet;
 use sqrt::sqrt_unmarked;
 
-// `f64::EPSILON`, and the Rust's sixteenfold of it.
-const EPSILON: f64 = 2.220446049250313e-16;
-
-const EPS_M_BY_16: f64 = 3.552713678800501e-15;
+// The Rust's sixteenfold of its EPSILON.
+const EPS_M_BY_16: f64 = 16.0 * f64::EPSILON;
 
 // The resolvent's three arguments or its three values.
 #[derive(Clone, Copy)]
@@ -53,10 +51,12 @@ struct Factors {
 fn small(x: f64) -> bool
     ensures { result ≡ small_of x }
 {
-    near(x, EPSILON)
+    near(x, f64::EPSILON)
 }
 
 // What has to be handed in for a quartic.
+// Stays: a, b, c and d one by one, here and below: a struct is no plainer, since each formula names them, as the Rust's.
+#[tactic(auto, using(crate::proofs::Needs::d_alone), unfolding(crate::specs::Quartic::need_of))]
 pub fn quartic_need(a: f64, b: f64, c: f64, d: f64) -> Need
     ensures { result ≡ need_of a b c d }
 {
@@ -72,13 +72,11 @@ pub fn quartic_need(a: f64, b: f64, c: f64, d: f64) -> Need
 }
 
 // The byte that stands for a need on a line.
-pub fn need_number(need: Need) -> u8
-    ensures { result ≡ need_number_of need }
-{
-    match need {
-        Need::Nothing => 0,
-        Need::Cube => 1,
-        Need::Resolvent => 2,
+impl From<Need> for u8 {
+    ghost from_gives = { λ need byte. byte ≡ need_number_of need };
+
+    fn from(need: Need) -> u8 {
+        need as u8
     }
 }
 
@@ -114,6 +112,7 @@ fn chosen(number_zeroes: u8, x3: Three) -> f64
 }
 
 // The two factors, by a root y of the resolvent.
+#[tactic(auto, unfolding(crate::specs::Quartic::factors_of))]
 fn factor(a: f64, b: f64, c: f64, d: f64, y: f64) -> Factors
     ensures { result ≡ factors_of a b c d y }
 {
@@ -144,9 +143,9 @@ fn factor(a: f64, b: f64, c: f64, d: f64, y: f64) -> Factors
         let q2 = (y - sqrt_d) / 2.0;
         Factors {
             p1: (a * q1 - c) / (q1 - q2),
-            q1: q1,
+            q1,
             p2: (c - a * q2) / (q1 - q2),
-            q2: q2,
+            q2,
         }
     }
 }
@@ -173,7 +172,7 @@ fn insert_quadratic(roots: PositiveSet, p: f64, q: f64, eps: f64) -> PositiveSet
 fn solve_without_cd(a: f64, b: f64) -> PositiveSet
     ensures { result ≡ set_of (insert_all_of [] (without_cd_of a b)) }
 {
-    insert_quadratic(PositiveSet::new().insert(0.0), a, b, EPSILON)
+    insert_quadratic(PositiveSet::new().insert(0.0), a, b, f64::EPSILON)
 }
 
 // Only c is left: x (x^3 + c).
@@ -192,26 +191,19 @@ fn solve_resolved(a: f64, b: f64, c: f64, d: f64, number_zeroes: u8, x3: Three) 
     insert_quadratic(roots, f.p2, f.q2, EPS_M_BY_16)
 }
 
+#[tactic(auto, using(crate::proofs::Needs::branches), unfolding(crate::specs::Quartic::offered_of))]
 fn solve_quart_monic_coeffs(a: f64, b: f64, c: f64, d: f64, answer: RootAnswer) -> PositiveSet
     ensures { result ≡ set_of (roots_of a b c d answer) }
 {
-    match quartic_need(a, b, c, d) {
-        Need::Nothing => solve_without_cd(a, b),
-        Need::Cube => match answer {
-            RootAnswer::CubeRoot(cbrt) => solve_with_cbrt(cbrt),
-            RootAnswer::Resolved(_, _) => PositiveSet::new(),
-        },
-        Need::Resolvent => match answer {
-            RootAnswer::CubeRoot(_) => PositiveSet::new(),
-            RootAnswer::Resolved(number_zeroes, x3) => solve_resolved(
-                a,
-                b,
-                c,
-                d,
-                number_zeroes,
-                x3,
-            ),
-        },
+    match (quartic_need(a, b, c, d), answer) {
+        (Need::Nothing, _) => solve_without_cd(a, b),
+        (Need::Cube, RootAnswer::CubeRoot(cbrt)) => solve_with_cbrt(cbrt),
+        (Need::Resolvent, RootAnswer::Resolved(number_zeroes, x3)) => {
+            solve_resolved(a, b, c, d, number_zeroes, x3)
+        }
+        // an answer that does not suit the need
+        (Need::Cube, RootAnswer::Resolved(_, _)) => PositiveSet::new(),
+        (Need::Resolvent, RootAnswer::CubeRoot(_)) => PositiveSet::new(),
     }
 }
 

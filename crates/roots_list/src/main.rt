@@ -6,7 +6,7 @@
 
 use digits::{byte_to_digits, from_digits, to_digits};
 use positive_set::PositiveSet;
-use roots::{RootAnswer, Three, need_number, quartic_need, resolvent_arguments, sorted_roots};
+use roots::{RootAnswer, Three, quartic_need, resolvent_arguments, sorted_roots};
 use std::io;
 use std::io::{ErrorKind, Read, Write};
 
@@ -82,7 +82,7 @@ fn write_reply(
     answer: RootAnswer,
 ) -> io::Result<()> {
     let arguments = resolvent_arguments(a, b, c, d);
-    output.write_all(&byte_to_digits(need_number(quartic_need(a, b, c, d))))?;
+    output.write_all(&byte_to_digits(u8::from(quartic_need(a, b, c, d))))?;
     write_number(output, arguments.x0)?;
     write_number(output, arguments.x1)?;
     write_number(output, arguments.x2)?;

@@ -1,2 +1,2 @@
--- What the four loops over roots share.
+-- The loop over the roots.
 mod Roots

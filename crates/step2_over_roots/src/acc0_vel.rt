@@ -6,15 +6,16 @@ ghost use Rattle.time_acc0_vel.specs.TimeAcc0Vel.{acc0_vel_too_short, acc0_vel_u
 ghost use Rattle.time_acc0_vel.specs.TimeAcc0Vel.{acc0_vel_udud_window, acc0_vel_udud};
 ghost use Rattle.step2_over_roots.specs.OverRoots.{over_roots};
 
+use super::over_roots::over_roots;
 use labels::Labels;
 use profile::in_place::Verdict;
-use roots::{RootAnswer, sorted_roots};
+use roots::RootAnswer;
 use row::NUMBERS;
-use step2_attempt::tried;
 use step2_quartics::Quartics;
 use step2_solver::{Limits, PositionThirdOrderStep2, Window};
 
 // Whether no attempt is made.
+#[tactic(auto, unfolding(time_acc0_vel::specs::TimeAcc0Vel::acc0_vel_too_short))]
 fn too_short(s: PositionThirdOrderStep2, a_max: f64, j_max: f64) -> bool
     ensures { result ≡ acc0_vel_too_short s a_max j_max }
 {
@@ -37,70 +38,6 @@ fn udud_window(s: PositionThirdOrderStep2, l: Limits) -> Window
     Window { t_min, t_max }
 }
 
-// Profile UDDU: the roots in their order of trial.
-fn uddu(
-    s: PositionThirdOrderStep2,
-    l: Limits,
-    polynom: [f64; 4],
-    answer: RootAnswer,
-    x: &mut [f64; NUMBERS],
-    labels: Labels,
-) -> Verdict
-    ensures { checked_in x.new result
-        ≡ tried_of l (over_roots (acc0_vel_uddu s l (acc0_vel_uddu_window s l)) polynom answer)
-        (profile_in x.old labels) }
-{
-    let w = uddu_window(s, l);
-    let set = sorted_roots(polynom, answer);
-    let count = set.len;
-    let roots = set.data;
-    let mut left = labels;
-    for i in 0..count {
-        let k = time_acc0_vel::uddu(s, l, w, roots[i]);
-        let r = tried(k, l, x, left);
-        if r.ok {
-            return r;
-        }
-        left = r.labels;
-    }
-    Verdict {
-        ok: false,
-        labels: left,
-    }
-}
-
-// Profile UDUD: the roots in their order of trial.
-fn udud(
-    s: PositionThirdOrderStep2,
-    l: Limits,
-    polynom: [f64; 4],
-    answer: RootAnswer,
-    x: &mut [f64; NUMBERS],
-    labels: Labels,
-) -> Verdict
-    ensures { checked_in x.new result
-        ≡ tried_of l (over_roots (acc0_vel_udud s l (acc0_vel_udud_window s l)) polynom answer)
-        (profile_in x.old labels) }
-{
-    let w = udud_window(s, l);
-    let set = sorted_roots(polynom, answer);
-    let count = set.len;
-    let roots = set.data;
-    let mut left = labels;
-    for i in 0..count {
-        let k = time_acc0_vel::udud(s, l, w, roots[i]);
-        let r = tried(k, l, x, left);
-        if r.ok {
-            return r;
-        }
-        left = r.labels;
-    }
-    Verdict {
-        ok: false,
-        labels: left,
-    }
-}
-
 pub fn time_acc0_vel(
     s: PositionThirdOrderStep2,
     l: Limits,
@@ -119,12 +56,25 @@ pub fn time_acc0_vel(
     if too_short(s, l.a_max, l.j_max) {
         return Verdict { ok: false, labels };
     }
-    let uddu_quartic = q.uddu;
-    let r = uddu(s, l, uddu_quartic, first, x, labels);
+    let w = uddu_window(s, l);
+    let r = over_roots(
+        |root| time_acc0_vel::uddu(s, l, w, root),
+        l,
+        q.uddu,
+        first,
+        x,
+        labels,
+    );
     if r.ok {
         return r;
     }
-    let left = r.labels;
-    let udud_quartic = q.udud;
-    udud(s, l, udud_quartic, second, x, left)
+    let w = udud_window(s, l);
+    over_roots(
+        |root| time_acc0_vel::udud(s, l, w, root),
+        l,
+        q.udud,
+        second,
+        x,
+        r.labels,
+    )
 }

@@ -6,11 +6,11 @@ ghost use Rattle.time_acc1_vel.specs.TimeAcc1Vel.{acc1_vel_uddu_window, acc1_vel
 ghost use Rattle.time_acc1_vel.specs.TimeAcc1Vel.{acc1_vel_udud_window, acc1_vel_udud};
 ghost use Rattle.step2_over_roots.specs.OverRoots.{over_roots};
 
+use super::over_roots::over_roots;
 use labels::Labels;
 use profile::in_place::Verdict;
-use roots::{RootAnswer, sorted_roots};
+use roots::RootAnswer;
 use row::NUMBERS;
-use step2_attempt::tried;
 use step2_quartics::Quartics;
 use step2_solver::{Limits, PositionThirdOrderStep2, Window};
 
@@ -36,70 +36,6 @@ fn udud_window(s: PositionThirdOrderStep2, l: Limits) -> Window
     Window { t_min, t_max }
 }
 
-// Profile UDDU: the roots in their order of trial.
-fn uddu(
-    s: PositionThirdOrderStep2,
-    l: Limits,
-    polynom: [f64; 4],
-    answer: RootAnswer,
-    x: &mut [f64; NUMBERS],
-    labels: Labels,
-) -> Verdict
-    ensures { checked_in x.new result
-        ≡ tried_of l (over_roots (acc1_vel_uddu s l (acc1_vel_uddu_window s l)) polynom answer)
-        (profile_in x.old labels) }
-{
-    let w = uddu_window(s, l);
-    let set = sorted_roots(polynom, answer);
-    let count = set.len;
-    let roots = set.data;
-    let mut left = labels;
-    for i in 0..count {
-        let k = time_acc1_vel::uddu(s, l, w, roots[i]);
-        let r = tried(k, l, x, left);
-        if r.ok {
-            return r;
-        }
-        left = r.labels;
-    }
-    Verdict {
-        ok: false,
-        labels: left,
-    }
-}
-
-// Profile UDUD: the roots in their order of trial.
-fn udud(
-    s: PositionThirdOrderStep2,
-    l: Limits,
-    polynom: [f64; 4],
-    answer: RootAnswer,
-    x: &mut [f64; NUMBERS],
-    labels: Labels,
-) -> Verdict
-    ensures { checked_in x.new result
-        ≡ tried_of l (over_roots (acc1_vel_udud s l (acc1_vel_udud_window s l)) polynom answer)
-        (profile_in x.old labels) }
-{
-    let w = udud_window(s, l);
-    let set = sorted_roots(polynom, answer);
-    let count = set.len;
-    let roots = set.data;
-    let mut left = labels;
-    for i in 0..count {
-        let k = time_acc1_vel::udud(s, l, w, roots[i]);
-        let r = tried(k, l, x, left);
-        if r.ok {
-            return r;
-        }
-        left = r.labels;
-    }
-    Verdict {
-        ok: false,
-        labels: left,
-    }
-}
-
 pub fn time_acc1_vel(
     s: PositionThirdOrderStep2,
     l: Limits,
@@ -114,12 +50,25 @@ pub fn time_acc1_vel(
         ++ over_roots (acc1_vel_udud s l (acc1_vel_udud_window s l)) q.udud second)
         (profile_in x.old labels) }
 {
-    let uddu_quartic = q.uddu;
-    let r = uddu(s, l, uddu_quartic, first, x, labels);
+    let w = uddu_window(s, l);
+    let r = over_roots(
+        |root| time_acc1_vel::uddu(s, l, w, root),
+        l,
+        q.uddu,
+        first,
+        x,
+        labels,
+    );
     if r.ok {
         return r;
     }
-    let left = r.labels;
-    let udud_quartic = q.udud;
-    udud(s, l, udud_quartic, second, x, left)
+    let w = udud_window(s, l);
+    over_roots(
+        |root| time_acc1_vel::udud(s, l, w, root),
+        l,
+        q.udud,
+        second,
+        x,
+        r.labels,
+    )
 }

@@ -3,3 +3,4 @@
 
 pub mod acc0_vel;
 pub mod acc1_vel;
+mod over_roots;

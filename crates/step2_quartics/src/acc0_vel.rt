@@ -4,6 +4,7 @@ ghost use Rattle.time_acc0_vel.specs.TimeAcc0Vel.{acc0_vel_ph1, acc0_vel_uddu_po
 
 use step2_solver::PositionThirdOrderStep2;
 
+#[tactic(auto, unfolding(time_acc0_vel::specs::TimeAcc0Vel::acc0_vel_ph1))]
 pub fn ph1(s: PositionThirdOrderStep2, a_max: f64, j_max: f64) -> f64
     ensures { result ≡ acc0_vel_ph1 s a_max j_max }
 {
@@ -11,6 +12,7 @@ pub fn ph1(s: PositionThirdOrderStep2, a_max: f64, j_max: f64) -> f64
         * (-a_max * a_max * s.vd - j_max * s.vd_vd + 2.0 * a_max * j_max * (-s.pd + s.tf * s.vf))
 }
 
+#[tactic(auto, unfolding(time_acc0_vel::specs::TimeAcc0Vel::acc0_vel_uddu_polynom))]
 pub fn uddu_polynom(s: PositionThirdOrderStep2, a_max: f64, j_max: f64, ph1: f64) -> [f64; 4]
     ensures { result ≡ acc0_vel_uddu_polynom s a_max j_max ph1 }
 {
@@ -30,6 +32,7 @@ pub fn uddu_polynom(s: PositionThirdOrderStep2, a_max: f64, j_max: f64, ph1: f64
     [polynom0, polynom1, polynom2, polynom3]
 }
 
+#[tactic(auto, unfolding(time_acc0_vel::specs::TimeAcc0Vel::acc0_vel_udud_polynom))]
 pub fn udud_polynom(s: PositionThirdOrderStep2, a_max: f64, j_max: f64, ph1: f64) -> [f64; 4]
     ensures { result ≡ acc0_vel_udud_polynom s a_max j_max ph1 }
 {

@@ -4,6 +4,7 @@ ghost use Rattle.time_acc1_vel.specs.TimeAcc1Vel.{acc1_vel_uddu_polynom, acc1_ve
 
 use step2_solver::PositionThirdOrderStep2;
 
+#[tactic(auto, unfolding(time_acc1_vel::specs::TimeAcc1Vel::acc1_vel_uddu_polynom))]
 pub fn uddu_polynom(s: PositionThirdOrderStep2, a_min: f64, j_max: f64) -> [f64; 4]
     ensures { result ≡ acc1_vel_uddu_polynom s a_min j_max }
 {
@@ -23,6 +24,7 @@ pub fn uddu_polynom(s: PositionThirdOrderStep2, a_min: f64, j_max: f64) -> [f64;
     [polynom0, polynom1, polynom2, polynom3]
 }
 
+#[tactic(auto, unfolding(time_acc1_vel::specs::TimeAcc1Vel::acc1_vel_udud_polynom))]
 pub fn udud_polynom(s: PositionThirdOrderStep2, a_max: f64, j_max: f64) -> [f64; 4]
     ensures { result ≡ acc1_vel_udud_polynom s a_max j_max }
 {

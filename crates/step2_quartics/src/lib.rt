@@ -26,6 +26,7 @@ fn no_quartics() -> Quartics
     }
 }
 
+#[tactic(auto, unfolding(crate::specs::Quartics::acc1_vel_quartics_of))]
 fn acc1_vel_quartics(s: PositionThirdOrderStep2, l: Limits) -> Quartics
     ensures { result ≡ acc1_vel_quartics_of s l }
 {
@@ -35,6 +36,7 @@ fn acc1_vel_quartics(s: PositionThirdOrderStep2, l: Limits) -> Quartics
     }
 }
 
+#[tactic(auto, unfolding(crate::specs::Quartics::acc0_vel_quartics_of))]
 fn acc0_vel_quartics(s: PositionThirdOrderStep2, l: Limits) -> Quartics
     ensures { result ≡ acc0_vel_quartics_of s l }
 {
@@ -52,9 +54,6 @@ pub fn quartics_of(shape: Shape, s: PositionThirdOrderStep2, l: Limits) -> Quart
     match shape {
         Shape::Acc1Vel => acc1_vel_quartics(s, l),
         Shape::Acc0Vel => acc0_vel_quartics(s, l),
-        Shape::Acc0Acc1Vel => no_quartics(),
-        Shape::Acc0Acc1 => no_quartics(),
-        Shape::Acc0 => no_quartics(),
-        Shape::RestToRest => no_quartics(),
+        Shape::Acc0Acc1Vel | Shape::Acc0Acc1 | Shape::Acc0 | Shape::RestToRest => no_quartics(),
     }
 }

@@ -14,6 +14,7 @@ use step2_solver::{Limits, PositionThirdOrderStep2, Times, Trial, times_of, tria
 
 // First attempt: UDUD
 
+#[tactic(auto, unfolding(crate::specs::TimeAcc0::acc0_first_radicand))]
 fn first_radicand(s: PositionThirdOrderStep2, a_max: f64, j_max: f64) -> f64
     ensures { result ≡ acc0_first_radicand s a_max j_max }
 {
@@ -21,6 +22,7 @@ fn first_radicand(s: PositionThirdOrderStep2, a_max: f64, j_max: f64) -> f64
         + (a_max * s.tf - s.vd) / j_max
 }
 
+#[tactic(auto, unfolding(crate::specs::TimeAcc0::acc0_first_times))]
 fn first_times(s: PositionThirdOrderStep2, a_max: f64, j_max: f64, h1: f64) -> Times
     ensures { result ≡ acc0_first_times s a_max j_max h1 }
 {
@@ -34,6 +36,7 @@ fn first_times(s: PositionThirdOrderStep2, a_max: f64, j_max: f64, h1: f64) -> T
     times_of(t0, t1, t2, t3, t4, t5, t6)
 }
 
+#[tactic(auto, unfolding(crate::specs::TimeAcc0::acc0_first))]
 pub fn first(s: PositionThirdOrderStep2, l: Limits) -> Trial
     ensures { result ≡ acc0_first s l }
 {
@@ -51,12 +54,14 @@ pub fn first(s: PositionThirdOrderStep2, l: Limits) -> Trial
 
 // Second attempt: UDDU by its signs, where the Rust's comment says UDUD
 
+#[tactic(auto, unfolding(crate::specs::TimeAcc0::acc0_second_h0a))]
 fn second_h0a(s: PositionThirdOrderStep2, a_max: f64, j_max: f64) -> f64
     ensures { result ≡ acc0_second_h0a s a_max j_max }
 {
     -s.a0_a0 + s.af_af - 2.0 * s.ad * a_max + 2.0 * j_max * (a_max * s.tf - s.vd)
 }
 
+#[tactic(auto, unfolding(crate::specs::TimeAcc0::acc0_second_h0b))]
 fn second_h0b(s: PositionThirdOrderStep2, a_max: f64, j_max: f64) -> f64
     ensures { result ≡ acc0_second_h0b s a_max j_max }
 {
@@ -71,18 +76,21 @@ fn second_h0b(s: PositionThirdOrderStep2, a_max: f64, j_max: f64) -> f64
         + 3.0 * s.af * (a_max * a_max + 2.0 * a_max * j_max * s.tf - 2.0 * j_max * s.vd)
 }
 
+#[tactic(auto, unfolding(crate::specs::TimeAcc0::acc0_second_radicand))]
 fn second_radicand(h0a: f64, h0b: f64) -> f64
     ensures { result ≡ acc0_second_radicand h0a h0b }
 {
     4.0 * h0b * h0b - 18.0 * h0a * h0a * h0a
 }
 
+#[tactic(auto, unfolding(crate::specs::TimeAcc0::acc0_second_h0))]
 fn second_h0(j_max: f64, root: f64) -> f64
     ensures { result ≡ acc0_second_h0 j_max root }
 {
     float::abs(j_max) * root
 }
 
+#[tactic(auto, unfolding(crate::specs::TimeAcc0::acc0_second_t1))]
 fn second_t1(s: PositionThirdOrderStep2, a_max: f64, j_max: f64, h1: f64) -> f64
     ensures { result ≡ acc0_second_t1 s a_max j_max h1 }
 {
@@ -96,6 +104,7 @@ fn second_t1(s: PositionThirdOrderStep2, a_max: f64, j_max: f64, h1: f64) -> f64
         / h1
 }
 
+#[tactic(auto, unfolding(crate::specs::TimeAcc0::acc0_second_times))]
 fn second_times(
     s: PositionThirdOrderStep2,
     a_max: f64,
@@ -115,6 +124,7 @@ fn second_times(
     times_of(t0, t1, t2, t3, t4, t5, t6)
 }
 
+#[tactic(auto, unfolding(crate::specs::TimeAcc0::acc0_second, crate::specs::TimeAcc0::acc0_second_h1))]
 pub fn second(s: PositionThirdOrderStep2, l: Limits) -> Trial
     ensures { result ≡ acc0_second s l }
 {
@@ -136,6 +146,7 @@ pub fn second(s: PositionThirdOrderStep2, l: Limits) -> Trial
 
 // Third attempt: UDDU, Solution 1, a[3] other than 0
 
+#[tactic(auto, unfolding(crate::specs::TimeAcc0::acc0_third_h0a))]
 fn third_h0a(s: PositionThirdOrderStep2, a_max: f64, j_max: f64) -> f64
     ensures { result ≡ acc0_third_h0a s a_max j_max }
 {
@@ -150,6 +161,7 @@ fn third_h0a(s: PositionThirdOrderStep2, a_max: f64, j_max: f64) -> f64
         - 3.0 * a_max * s.j_max_j_max * s.tf_tf
 }
 
+#[tactic(auto, unfolding(crate::specs::TimeAcc0::acc0_third_h0b))]
 fn third_h0b(s: PositionThirdOrderStep2, a_max: f64, j_max: f64) -> f64
     ensures { result ≡ acc0_third_h0b s a_max j_max }
 {
@@ -158,18 +170,21 @@ fn third_h0b(s: PositionThirdOrderStep2, a_max: f64, j_max: f64) -> f64
         + 2.0 * (a_max * a_max - (s.a0 + s.af) * a_max + j_max * (s.vd - a_max * s.tf))
 }
 
+#[tactic(auto, unfolding(crate::specs::TimeAcc0::acc0_third_radicand))]
 fn third_radicand(h0a: f64, h0b: f64) -> f64
     ensures { result ≡ acc0_third_radicand h0a h0b }
 {
     4.0 * h0a * h0a - 18.0 * h0b * h0b * h0b
 }
 
+#[tactic(auto, unfolding(crate::specs::TimeAcc0::acc0_third_h1))]
 fn third_h1(j_max: f64, root: f64) -> f64
     ensures { result ≡ acc0_third_h1 j_max root }
 {
     float::abs(j_max) / j_max * root
 }
 
+#[tactic(auto, unfolding(crate::specs::TimeAcc0::acc0_third_times))]
 fn third_times(
     s: PositionThirdOrderStep2,
     a_max: f64,
@@ -190,6 +205,7 @@ fn third_times(
     times_of(t0, t1, t2, t3, t4, t5, t6)
 }
 
+#[tactic(auto, unfolding(crate::specs::TimeAcc0::acc0_third, crate::specs::TimeAcc0::acc0_third_h2))]
 pub fn third(s: PositionThirdOrderStep2, l: Limits) -> Trial
     ensures { result ≡ acc0_third s l }
 {

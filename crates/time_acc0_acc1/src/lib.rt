@@ -15,35 +15,37 @@ use labels::{ControlSigns, ReachedLimits};
 use sqrt::{is_mark, sqrt, to_f64};
 use step2_solver::{Limits, PositionThirdOrderStep2, Times, Trial, times_of, trial_of};
 
-// `f64::EPSILON`, 2^-52.
-const EPSILON: f64 = 2.220446049250313e-16;
-
 // Both end accelerations below EPS in size: the rest formula, and no other attempt
 
+#[tactic(auto, unfolding(crate::specs::TimeAcc0Acc1::acc0_acc1_rest_applies))]
 fn rest_applies(s: PositionThirdOrderStep2) -> bool
     ensures { result ≡ acc0_acc1_rest_applies s }
 {
-    (float::abs(s.a0) < EPSILON) & (float::abs(s.af) < EPSILON)
+    (float::abs(s.a0) < f64::EPSILON) & (float::abs(s.af) < f64::EPSILON)
 }
 
+#[tactic(auto, unfolding(crate::specs::TimeAcc0Acc1::acc0_acc1_rest_h1))]
 fn rest_h1(s: PositionThirdOrderStep2, a_max: f64, a_min: f64) -> f64
     ensures { result ≡ acc0_acc1_rest_h1 s a_max a_min }
 {
     2.0 * a_min * s.g1 + s.vd_vd + a_max * (2.0 * s.pd + a_min * s.tf_tf - 2.0 * s.tf * s.vf)
 }
 
+#[tactic(auto, unfolding(crate::specs::TimeAcc0Acc1::acc0_acc1_rest_h2))]
 fn rest_h2(s: PositionThirdOrderStep2, a_max: f64, a_min: f64) -> f64
     ensures { result ≡ acc0_acc1_rest_h2 s a_max a_min }
 {
     (a_max - a_min) * (-a_min * s.vd + a_max * (a_min * s.tf - s.vd))
 }
 
+#[tactic(auto, unfolding(crate::specs::TimeAcc0Acc1::acc0_acc1_rest_t1))]
 fn rest_t1(s: PositionThirdOrderStep2, a_max: f64, a_min: f64, h1: f64, h2: f64) -> f64
     ensures { result ≡ acc0_acc1_rest_t1 s a_max a_min h1 h2 }
 {
     (-2.0 * a_max * h1 + a_min * a_min * s.g2) / h2
 }
 
+#[tactic(auto, unfolding(crate::specs::TimeAcc0Acc1::acc0_acc1_rest_times))]
 fn rest_times(s: PositionThirdOrderStep2, a_max: f64, a_min: f64, jf: f64, t1: f64) -> Times
     ensures { result ≡ acc0_acc1_rest_times s a_max a_min jf t1 }
 {
@@ -96,6 +98,7 @@ fn rest(rest_to_rest: bool, s: PositionThirdOrderStep2, l: Limits) -> Trial
 // UDDU
 
 // v is what the Rust hands to `pow2`.
+#[tactic(auto, unfolding(crate::specs::TimeAcc0Acc1::acc0_acc1_uddu_radicand))]
 fn uddu_radicand(s: PositionThirdOrderStep2, a_max: f64, a_min: f64) -> f64
     ensures { result ≡ acc0_acc1_uddu_radicand s a_max a_min }
 {
@@ -121,6 +124,7 @@ fn uddu_radicand(s: PositionThirdOrderStep2, a_max: f64, a_min: f64) -> f64
                 + a_max * (2.0 * s.pd + a_min * s.tf * s.tf - 2.0 * s.tf * s.vf))
 }
 
+#[tactic(auto, unfolding(crate::specs::TimeAcc0Acc1::acc0_acc1_uddu_jf))]
 fn uddu_jf(s: PositionThirdOrderStep2, a_max: f64, a_min: f64, h1: f64) -> f64
     ensures { result ≡ acc0_acc1_uddu_jf s a_max a_min h1 }
 {
@@ -138,6 +142,7 @@ fn uddu_jf(s: PositionThirdOrderStep2, a_max: f64, a_min: f64, h1: f64) -> f64
                 + a_max * (2.0 * s.pd + a_min * s.tf_tf - 2.0 * s.tf * s.vf)))
 }
 
+#[tactic(auto, unfolding(crate::specs::TimeAcc0Acc1::acc0_acc1_uddu_t1))]
 fn uddu_t1(s: PositionThirdOrderStep2, a_max: f64, a_min: f64, jf: f64) -> f64
     ensures { result ≡ acc0_acc1_uddu_t1 s a_max a_min jf }
 {
@@ -147,6 +152,7 @@ fn uddu_t1(s: PositionThirdOrderStep2, a_max: f64, a_min: f64, jf: f64) -> f64
         / (2.0 * (a_max - a_min) * jf)
 }
 
+#[tactic(auto, unfolding(crate::specs::TimeAcc0Acc1::acc0_acc1_uddu_times))]
 fn uddu_times(s: PositionThirdOrderStep2, a_max: f64, a_min: f64, jf: f64, t1: f64) -> Times
     ensures { result ≡ acc0_acc1_uddu_times s a_max a_min jf t1 }
 {
@@ -159,6 +165,7 @@ fn uddu_times(s: PositionThirdOrderStep2, a_max: f64, a_min: f64, jf: f64, t1: f
     times_of(t0, t1, t2, t3, t4, t5, t6)
 }
 
+#[tactic(auto, unfolding(crate::specs::TimeAcc0Acc1::acc0_acc1_uddu))]
 fn uddu(s: PositionThirdOrderStep2, l: Limits) -> Trial
     ensures { result ≡ acc0_acc1_uddu s l }
 {

@@ -5,6 +5,7 @@ ghost use Rattle.time_acc0_acc1.specs.RestToRest.{rest_to_rest_t1};
 
 use step2_solver::PositionThirdOrderStep2;
 
+#[tactic(auto, unfolding(crate::specs::RestToRest::rest_to_rest_t1))]
 pub fn t1(s: PositionThirdOrderStep2, a_max: f64, a_min: f64, jf: f64) -> f64
     ensures { result ≡ rest_to_rest_t1 s a_max a_min jf }
 {

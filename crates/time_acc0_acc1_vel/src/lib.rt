@@ -15,6 +15,7 @@ use step2_solver::{Limits, PositionThirdOrderStep2, Times, Trial, no_trial, time
 
 // Profile UDDU, Solution 1
 
+#[tactic(auto, unfolding(crate::specs::TimeAcc0Acc1Vel::acc0_acc1_vel_uddu_radicand))]
 fn uddu_radicand(s: PositionThirdOrderStep2, a_max: f64, a_min: f64, j_max: f64) -> f64
     ensures { result ≡ acc0_acc1_vel_uddu_radicand s a_max a_min j_max }
 {
@@ -40,12 +41,14 @@ fn uddu_radicand(s: PositionThirdOrderStep2, a_max: f64, a_min: f64, j_max: f64)
         + 4.0 * j_max * (a_min - a_max + j_max * s.tf - 2.0 * s.af) * s.tf
 }
 
+#[tactic(auto, unfolding(crate::specs::TimeAcc0Acc1Vel::acc0_acc1_vel_uddu_h1))]
 fn uddu_h1(j_max: f64, root: f64) -> f64
     ensures { result ≡ acc0_acc1_vel_uddu_h1 j_max root }
 {
     root * float::abs(j_max) / j_max
 }
 
+#[tactic(auto, unfolding(crate::specs::TimeAcc0Acc1Vel::acc0_acc1_vel_uddu_t1))]
 fn uddu_t1(s: PositionThirdOrderStep2, a_max: f64, a_min: f64, j_max: f64, h1: f64) -> f64
     ensures { result ≡ acc0_acc1_vel_uddu_t1 s a_max a_min j_max h1 }
 {
@@ -57,6 +60,7 @@ fn uddu_t1(s: PositionThirdOrderStep2, a_max: f64, a_min: f64, j_max: f64, h1: f
         / (2.0 * (a_max - a_min) * j_max)
 }
 
+#[tactic(auto, unfolding(crate::specs::TimeAcc0Acc1Vel::acc0_acc1_vel_uddu_times))]
 fn uddu_times(
     s: PositionThirdOrderStep2,
     a_max: f64,
@@ -76,6 +80,7 @@ fn uddu_times(
     times_of(t0, t1, t2, t3, t4, t5, t6)
 }
 
+#[tactic(auto, unfolding(crate::specs::TimeAcc0Acc1Vel::acc0_acc1_vel_uddu, crate::specs::TimeAcc0Acc1Vel::acc0_acc1_vel_uddu_applies))]
 pub fn uddu(s: PositionThirdOrderStep2, l: Limits) -> Trial
     ensures { result ≡ acc0_acc1_vel_uddu s l }
 {
@@ -98,6 +103,7 @@ pub fn uddu(s: PositionThirdOrderStep2, l: Limits) -> Trial
 
 // Profile UDUD
 
+#[tactic(auto, unfolding(crate::specs::TimeAcc0Acc1Vel::acc0_acc1_vel_udud_t1))]
 fn udud_t1(s: PositionThirdOrderStep2, a_max: f64, j_max: f64) -> f64
     ensures { result ≡ acc0_acc1_vel_udud_t1 s a_max j_max }
 {
@@ -115,6 +121,7 @@ fn udud_t1(s: PositionThirdOrderStep2, a_max: f64, j_max: f64) -> f64
                 + 2.0 * (a_max * a_max - a_max * j_max * s.tf + j_max * s.vd)))
 }
 
+#[tactic(auto, unfolding(crate::specs::TimeAcc0Acc1Vel::acc0_acc1_vel_udud_t3))]
 fn udud_t3(s: PositionThirdOrderStep2, a_max: f64, j_max: f64) -> f64
     ensures { result ≡ acc0_acc1_vel_udud_t3 s a_max j_max }
 {
@@ -123,6 +130,7 @@ fn udud_t3(s: PositionThirdOrderStep2, a_max: f64, j_max: f64) -> f64
         + s.tf
 }
 
+#[tactic(auto, unfolding(crate::specs::TimeAcc0Acc1Vel::acc0_acc1_vel_udud_times))]
 fn udud_times(s: PositionThirdOrderStep2, a_max: f64, j_max: f64, t1: f64, t3: f64) -> Times
     ensures { result ≡ acc0_acc1_vel_udud_times s a_max j_max t1 t3 }
 {
@@ -134,6 +142,7 @@ fn udud_times(s: PositionThirdOrderStep2, a_max: f64, j_max: f64, t1: f64, t3: f
     times_of(t0, t1, t2, t3, t4, t5, t6)
 }
 
+#[tactic(auto, unfolding(crate::specs::TimeAcc0Acc1Vel::acc0_acc1_vel_udud, crate::specs::TimeAcc0Acc1Vel::acc0_acc1_vel_udud_applies))]
 pub fn udud(s: PositionThirdOrderStep2, l: Limits) -> Trial
     ensures { result ≡ acc0_acc1_vel_udud s l }
 {

@@ -14,11 +14,9 @@ use step2_solver::{
     Limits, PositionThirdOrderStep2, Times, Trial, Window, no_trial, outside, times_of, trial_of,
 };
 
-// `f64::EPSILON`, 2^-52.
-const EPSILON: f64 = 2.220446049250313e-16;
-
 // Profile UDDU
 
+#[tactic(auto, unfolding(crate::specs::TimeAcc0Vel::acc0_vel_uddu_orig))]
 fn uddu_orig(s: PositionThirdOrderStep2, a_max: f64, j_max: f64, t: f64, h1: f64) -> f64
     ensures { result ≡ acc0_vel_uddu_orig s a_max j_max t h1 }
 {
@@ -35,6 +33,7 @@ fn uddu_orig(s: PositionThirdOrderStep2, a_max: f64, j_max: f64, t: f64, h1: f64
         / (24.0 * a_max * s.j_max_j_max)
 }
 
+#[tactic(auto, unfolding(crate::specs::TimeAcc0Vel::acc0_vel_uddu_deriv))]
 fn uddu_deriv(s: PositionThirdOrderStep2, a_max: f64, j_max: f64, t: f64, h1: f64) -> f64
     ensures { result ≡ acc0_vel_uddu_deriv s a_max j_max t h1 }
 {
@@ -47,10 +46,11 @@ fn uddu_deriv(s: PositionThirdOrderStep2, a_max: f64, j_max: f64, t: f64, h1: f6
 }
 
 // Single Newton step (regarding pd).
+#[tactic(auto, unfolding(crate::specs::TimeAcc0Vel::acc0_vel_uddu_newton))]
 fn uddu_newton(s: PositionThirdOrderStep2, a_max: f64, j_max: f64, t: f64) -> f64
     ensures { result ≡ acc0_vel_uddu_newton s a_max j_max t }
 {
-    if t > EPSILON {
+    if t > f64::EPSILON {
         let h1 = j_max * t * t + s.vd;
         t - uddu_orig(s, a_max, j_max, t, h1) / uddu_deriv(s, a_max, j_max, t, h1)
     } else {
@@ -58,12 +58,14 @@ fn uddu_newton(s: PositionThirdOrderStep2, a_max: f64, j_max: f64, t: f64) -> f6
     }
 }
 
+#[tactic(auto, unfolding(crate::specs::TimeAcc0Vel::acc0_vel_uddu_h1))]
 fn uddu_h1(s: PositionThirdOrderStep2, a_max: f64, j_max: f64, t: f64) -> f64
     ensures { result ≡ acc0_vel_uddu_h1 s a_max j_max t }
 {
     ((s.a0_a0 - s.af_af) / 2.0 + j_max * (j_max * t * t + s.vd)) / a_max
 }
 
+#[tactic(auto, unfolding(crate::specs::TimeAcc0Vel::acc0_vel_uddu_times))]
 fn uddu_times(s: PositionThirdOrderStep2, a_max: f64, j_max: f64, t: f64, h1: f64) -> Times
     ensures { result ≡ acc0_vel_uddu_times s a_max j_max t h1 }
 {
@@ -78,6 +80,7 @@ fn uddu_times(s: PositionThirdOrderStep2, a_max: f64, j_max: f64, t: f64, h1: f6
 }
 
 // One root.
+#[tactic(auto, unfolding(crate::specs::TimeAcc0Vel::acc0_vel_uddu))]
 pub fn uddu(s: PositionThirdOrderStep2, l: Limits, w: Window, root: f64) -> Trial
     ensures { result ≡ acc0_vel_uddu s l w root }
 {
@@ -98,6 +101,7 @@ pub fn uddu(s: PositionThirdOrderStep2, l: Limits, w: Window, root: f64) -> Tria
 
 // Profile UDUD
 
+#[tactic(auto, unfolding(crate::specs::TimeAcc0Vel::acc0_vel_udud_orig))]
 fn udud_orig(s: PositionThirdOrderStep2, a_max: f64, j_max: f64, t: f64, h1: f64) -> f64
     ensures { result ≡ acc0_vel_udud_orig s a_max j_max t h1 }
 {
@@ -113,6 +117,7 @@ fn udud_orig(s: PositionThirdOrderStep2, a_max: f64, j_max: f64, t: f64, h1: f64
         / (24.0 * a_max * s.j_max_j_max)
 }
 
+#[tactic(auto, unfolding(crate::specs::TimeAcc0Vel::acc0_vel_udud_deriv))]
 fn udud_deriv(s: PositionThirdOrderStep2, a_max: f64, j_max: f64, t: f64, h1: f64) -> f64
     ensures { result ≡ acc0_vel_udud_deriv s a_max j_max t h1 }
 {
@@ -123,6 +128,7 @@ fn udud_deriv(s: PositionThirdOrderStep2, a_max: f64, j_max: f64, t: f64, h1: f6
 }
 
 // Single Newton step (regarding pd).
+#[tactic(auto, unfolding(crate::specs::TimeAcc0Vel::acc0_vel_udud_newton))]
 fn udud_newton(s: PositionThirdOrderStep2, a_max: f64, j_max: f64, t: f64) -> f64
     ensures { result ≡ acc0_vel_udud_newton s a_max j_max t }
 {
@@ -130,12 +136,14 @@ fn udud_newton(s: PositionThirdOrderStep2, a_max: f64, j_max: f64, t: f64) -> f6
     t - udud_orig(s, a_max, j_max, t, h1) / udud_deriv(s, a_max, j_max, t, h1)
 }
 
+#[tactic(auto, unfolding(crate::specs::TimeAcc0Vel::acc0_vel_udud_h1))]
 fn udud_h1(s: PositionThirdOrderStep2, a_max: f64, j_max: f64, t: f64) -> f64
     ensures { result ≡ acc0_vel_udud_h1 s a_max j_max t }
 {
     ((s.a0_a0 + s.af_af) / 2.0 + j_max * (s.vd - j_max * t * t)) / a_max
 }
 
+#[tactic(auto, unfolding(crate::specs::TimeAcc0Vel::acc0_vel_udud_times))]
 fn udud_times(s: PositionThirdOrderStep2, a_max: f64, j_max: f64, t: f64, h1: f64) -> Times
     ensures { result ≡ acc0_vel_udud_times s a_max j_max t h1 }
 {
@@ -150,6 +158,7 @@ fn udud_times(s: PositionThirdOrderStep2, a_max: f64, j_max: f64, t: f64, h1: f6
 }
 
 // One root.
+#[tactic(auto, unfolding(crate::specs::TimeAcc0Vel::acc0_vel_udud))]
 pub fn udud(s: PositionThirdOrderStep2, l: Limits, w: Window, root: f64) -> Trial
     ensures { result ≡ acc0_vel_udud s l w root }
 {

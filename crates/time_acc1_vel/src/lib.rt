@@ -13,11 +13,12 @@ use step2_solver::{
     Limits, PositionThirdOrderStep2, Times, Trial, Window, no_trial, outside, times_of, trial_of,
 };
 
-// `16.0 * f64::EPSILON`, 2^-48.
-const EPSILON_16: f64 = 3.552713678800501e-15;
+// The bound of the Newton step, 2^-48.
+const EPSILON_16: f64 = 16.0 * f64::EPSILON;
 
 // Profile UDDU
 
+#[tactic(auto, unfolding(crate::specs::TimeAcc1Vel::acc1_vel_uddu_orig))]
 fn uddu_orig(s: PositionThirdOrderStep2, a_min: f64, j_max: f64, t: f64, h0: f64) -> f64
     ensures { result ≡ acc1_vel_uddu_orig s a_min j_max t h0 }
 {
@@ -44,6 +45,7 @@ fn uddu_orig(s: PositionThirdOrderStep2, a_min: f64, j_max: f64, t: f64, h0: f64
         + s.tf * s.v0
 }
 
+#[tactic(auto, unfolding(crate::specs::TimeAcc1Vel::acc1_vel_uddu_deriv))]
 fn uddu_deriv(s: PositionThirdOrderStep2, a_min: f64, j_max: f64, t: f64, h0: f64) -> f64
     ensures { result ≡ acc1_vel_uddu_deriv s a_min j_max t h0 }
 {
@@ -56,6 +58,7 @@ fn uddu_deriv(s: PositionThirdOrderStep2, a_min: f64, j_max: f64, t: f64, h0: f6
 }
 
 // Single Newton step (regarding pd).
+#[tactic(auto, unfolding(crate::specs::TimeAcc1Vel::acc1_vel_uddu_newton))]
 fn uddu_newton(s: PositionThirdOrderStep2, a_min: f64, j_max: f64, t: f64) -> f64
     ensures { result ≡ acc1_vel_uddu_newton s a_min j_max t }
 {
@@ -67,12 +70,14 @@ fn uddu_newton(s: PositionThirdOrderStep2, a_min: f64, j_max: f64, t: f64) -> f6
     }
 }
 
+#[tactic(auto, unfolding(crate::specs::TimeAcc1Vel::acc1_vel_uddu_h1))]
 fn uddu_h1(s: PositionThirdOrderStep2, a_min: f64, j_max: f64, t: f64) -> f64
     ensures { result ≡ acc1_vel_uddu_h1 s a_min j_max t }
 {
     -((s.a0_a0 + s.af_af) / 2.0 + j_max * (-s.vd + 2.0 * s.a0 * t + j_max * t * t)) / a_min
 }
 
+#[tactic(auto, unfolding(crate::specs::TimeAcc1Vel::acc1_vel_uddu_times))]
 fn uddu_times(s: PositionThirdOrderStep2, a_min: f64, j_max: f64, t: f64, h1: f64) -> Times
     ensures { result ≡ acc1_vel_uddu_times s a_min j_max t h1 }
 {
@@ -87,6 +92,7 @@ fn uddu_times(s: PositionThirdOrderStep2, a_min: f64, j_max: f64, t: f64, h1: f6
 }
 
 // One root.
+#[tactic(auto, unfolding(crate::specs::TimeAcc1Vel::acc1_vel_uddu))]
 pub fn uddu(s: PositionThirdOrderStep2, l: Limits, w: Window, root: f64) -> Trial
     ensures { result ≡ acc1_vel_uddu s l w root }
 {
@@ -107,12 +113,14 @@ pub fn uddu(s: PositionThirdOrderStep2, l: Limits, w: Window, root: f64) -> Tria
 
 // Profile UDUD
 
+#[tactic(auto, unfolding(crate::specs::TimeAcc1Vel::acc1_vel_udud_h1))]
 fn udud_h1(s: PositionThirdOrderStep2, a_max: f64, j_max: f64, t: f64) -> f64
     ensures { result ≡ acc1_vel_udud_h1 s a_max j_max t }
 {
     ((s.a0_a0 - s.af_af) / 2.0 + s.j_max_j_max * t * t - j_max * (s.vd - 2.0 * s.a0 * t)) / a_max
 }
 
+#[tactic(auto, unfolding(crate::specs::TimeAcc1Vel::acc1_vel_udud_times))]
 fn udud_times(s: PositionThirdOrderStep2, a_max: f64, j_max: f64, t: f64, h1: f64) -> Times
     ensures { result ≡ acc1_vel_udud_times s a_max j_max t h1 }
 {
@@ -127,6 +135,7 @@ fn udud_times(s: PositionThirdOrderStep2, a_max: f64, j_max: f64, t: f64, h1: f6
 }
 
 // One root.
+#[tactic(auto, unfolding(crate::specs::TimeAcc1Vel::acc1_vel_udud))]
 pub fn udud(s: PositionThirdOrderStep2, l: Limits, w: Window, root: f64) -> Trial
     ensures { result ≡ acc1_vel_udud s l w root }
 {

@@ -15,8 +15,8 @@ shape_of-bytes c = rw c.put_row.ensures (simp (length-sets, length-set))
 pub returns : goal.returns
 returns c =
     rw c.put_row.ensures
-    (one_quartic c.args.bytes.now c.args.at _ _ _ _ c.quartic_need.result c.need_number.result
+    (one_quartic c.args.bytes.now c.args.at _ _ _ _ c.quartic_need.result c.from.result
     c.resolvent_arguments-r.result
     c.resolvent_arguments-r.ensures
     c.quartic_need.ensures
-    c.need_number.ensures)
+    c.from.ensures)

@@ -2,11 +2,6 @@
 use Rattle.time_acc0_vel.specs.TimeAcc0Vel.{acc0_vel_udud_window, acc0_vel_udud_t_min, acc0_vel_udud_t_max}
 use Rattle.step2_over_roots.proofs.acc0_vel.udud_window.Goals as goal
 
-pub min-t_max-requires : goal.min-t_max-requires
-unfolding acc0_vel_udud_window acc0_vel_udud_t_min acc0_vel_udud_t_max
-min-t_max-requires c =
-    tt
-
 pub returns : goal.returns
 unfolding acc0_vel_udud_window acc0_vel_udud_t_min acc0_vel_udud_t_max
 returns c =

@@ -2,11 +2,6 @@
 use Rattle.time_acc1_vel.specs.TimeAcc1Vel.{acc1_vel_uddu_window, acc1_vel_t_min, acc1_vel_uddu_t_max}
 use Rattle.step2_over_roots.proofs.acc1_vel.uddu_window.Goals as goal
 
-pub min-t_max-requires : goal.min-t_max-requires
-unfolding acc1_vel_uddu_window acc1_vel_t_min acc1_vel_uddu_t_max
-min-t_max-requires c =
-    tt
-
 pub returns : goal.returns
 unfolding acc1_vel_uddu_window acc1_vel_t_min acc1_vel_uddu_t_max
 returns c =

@@ -1,9 +1,0 @@
--- `uddu_polynom` is `acc1_vel_uddu_polynom`: the same operations in the same order. Assumes nothing.
-use mathlib.Core.Path.{refl}
-use Rattle.time_acc1_vel.specs.TimeAcc1Vel.{acc1_vel_uddu_polynom}
-use Rattle.step2_quartics.proofs.acc1_vel.uddu_polynom.Goals as goal
-
-pub returns : goal.returns
-unfolding acc1_vel_uddu_polynom
-returns c =
-    refl

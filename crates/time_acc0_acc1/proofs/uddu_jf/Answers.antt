@@ -1,9 +1,0 @@
--- `uddu_jf` is `acc0_acc1_uddu_jf`: the same operations in the same order. Assumes nothing.
-use mathlib.Core.Path.{refl}
-use Rattle.time_acc0_acc1.specs.TimeAcc0Acc1.{acc0_acc1_uddu_jf}
-use Rattle.time_acc0_acc1.proofs.uddu_jf.Goals as goal
-
-pub returns : goal.returns
-unfolding acc0_acc1_uddu_jf
-returns c =
-    refl
