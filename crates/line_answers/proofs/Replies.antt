@@ -1,10 +1,13 @@
 -- Assumes nothing. The ways out of a reply, over any questions: a number, and the places as they came;
 -- or the reply in the first of them.
-use mathlib.Core.Path.{◌≡◌}
+use mathlib.Core.Path.{◌≡◌, refl, ap, sym, ◌∙◌}
 use mathlib.Core.Bool.{Bool, false}
 use mathlib.Core.List.{List, ◌∷◌, ◌++◌}
 use Prim.Native.Nat.{ℕ}
 use borrow.Author.Tests.{ne_eqb}
+use Rattle.std.specs.Prelude.{Option, Some, None, Result, Ok, Err, IsErr, IsErrAnd, ok_or}
+use Rattle.std.specs.Result.{result_ok}
+use Rattle.line_kinds.specs.declared.refusals.Refusal.{Refusal}
 use Rattle.hex_bytes.specs.Hex.{hex_of, fill}
 use Rattle.line_questions.specs.Questions.{Question, ask, AllYes}
 use Rattle.line_questions.proofs.Asked.{stops, none}
@@ -23,3 +26,21 @@ module _ (bytes lent : List ℕ) where
       → record { number = 0; places = reply } ≡ replied_of qs bytes lent
   unfolding replied_of
   replied qs h reply e = rw (none qs h, e)
+
+-- ---- where a `?` of an `ok_or` goes on, and where it stops
+pub went_on : {X : Type 0} {o : Option X} {r : Result X Refusal} {x : X} → o ≡ result_ok r → r ≡ Ok x → Some x ≡ o
+went_on k h = sym (k ∙ ap result_ok h)
+
+unmade : {X : Type 0} {e f : Refusal} (o : Option X) → Err f ≡ ok_or o e → (None ≡ o) × (f ≡ e)
+unmade None h = (refl, cc)
+unmade (Some x) h = cc
+
+pub stopped : {X T : Type 0} {o : Option X} {e f : Refusal} {r : Result X Refusal} (s : Result T Refusal)
+    → r ≡ ok_or o e → r ≡ Err f → IsErr s × IsErrAnd s (λ g. g ≡ f) → (None ≡ o) × (s ≡ Err e)
+stopped (Ok x) k h l = absurd l.1
+stopped (Err g) k h l = let u = unmade _ (sym h ∙ k) in (u.0, rw (l.1 ∙ u.1))
+
+-- where a `?` of a refusal stops
+pub passed_on : {T : Type 0} {f : Refusal} (s : Result T Refusal) → IsErr s × IsErrAnd s (λ g. g ≡ f) → s ≡ Err f
+passed_on (Ok x) l = absurd l.1
+passed_on (Err g) l = rw l.1

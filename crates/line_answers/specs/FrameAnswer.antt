@@ -1,5 +1,5 @@
 -- What a frame of the length of its kind is answered: a number, and what the lent places then hold. Definitions only.
-use Rattle.std.specs.Prelude.{Bool, cond, List, [], ◌∷◌, ◌++◌, ℕ, eqb, leb, length}
+use Rattle.std.specs.Prelude.{cond, List, [], ◌∷◌, ◌++◌, ℕ, eqb, leb, length}
 use Rattle.hex_bytes.specs.Hex.{hex_of, fill}
 use Rattle.step2_solver.specs.declared.Shape.{Shape}
 use Rattle.line_kinds.specs.declared.Asks.{Asks}
@@ -8,6 +8,8 @@ use Rattle.line_kinds.specs.Kinds.{places_of}
 use Rattle.line_frame.specs.Frame.{Frame}
 use Rattle.line_questions.specs.Questions.{Question, ask, first_no, questions_of}
 use Rattle.line_reply.specs.Reply.{reply_bytes_of, causes_bytes_of}
+use Rattle.line_answers.specs.declared.shape_line.Wanted.{Wanted}
+use Rattle.line_answers.specs.declared.shape_line.Wanted.TheVariants.{Record, Causes}
 use Rattle.line_answers.specs.CheckLine.{check_line_of}
 use Rattle.line_answers.specs.ShapeLine.{shape_line_of}
 use Rattle.line_answers.specs.QuarticLine.{quartic_line_of}
@@ -24,9 +26,10 @@ reply_of (OfShape shape) at = reply_bytes_of (shape_line_of shape at)
 reply_of (OfQuartics shape) at = quartic_line_of shape at
 reply_of (OfCauses shape) at = causes_bytes_of (shape_line_of shape at)
 
--- a line of twelve numbers asks the quartics of a shape, or the shape, with count and cause or without
-abbrev pub of_shape : Bool → Bool → Shape → Asks
-of_shape quartics causes shape = cond quartics (OfQuartics shape) (cond causes (OfCauses shape) (OfShape shape))
+-- a line asks a shape with count and cause or without
+abbrev pub of_shape : Wanted → Shape → Asks
+of_shape Record shape = OfShape shape
+of_shape Causes shape = OfCauses shape
 
 -- 0, with the reply's characters in the first lent places;
 -- or the number of the first question with a no, and the places as they came

@@ -3,6 +3,7 @@ ghost use Rattle.std.specs.Prelude.{◌≡◌};
 ghost use Rattle.hex_bytes.specs.Hex.{Filled};
 ghost use Rattle.line_kinds.specs.declared.Asks.TheVariants.{OfCheck};
 ghost use Rattle.line_kinds.specs.Kinds.{record_places};
+ghost use Rattle.line_kinds.specs.Refusals.{number_of};
 ghost use Rattle.line_frame.specs.Frame.{byte_at};
 ghost use Rattle.line_reply.specs.Reply.{reply_bytes_of, written_of};
 ghost use Rattle.line_answers.specs.CheckLine.{checked_of};
@@ -10,6 +11,7 @@ ghost use Rattle.line_answers.specs.FrameAnswer.{Answer, frame_answer_of};
 
 use labels::{ControlSigns, ReachedLimits, start_labels};
 use line_frame::{CheckNumbers, check_numbers};
+use line_kinds::refusals::Refusal;
 use line_kinds::{FRAME, RECORD};
 use line_questions::choices_fit;
 use line_reply::write_record;
@@ -39,21 +41,17 @@ fn check_reply(x: CheckNumbers, frame: &[u8; FRAME], reply: &mut [u8]) -> bool
     write_record(reply, answer, &row)
 }
 
-pub fn check_line(frame: &[u8; FRAME], reply: &mut [u8]) -> u32
-    ensures { record { number = result; places = reply.new }
+pub fn check_line(frame: &[u8; FRAME], reply: &mut [u8]) -> Result<(), Refusal>
+    ensures { record { number = number_of result; places = reply.new }
         ≡ frame_answer_of OfCheck (byte_at frame.now) reply.old }
 {
     if !choices_fit(frame) {
-        return 5;
+        return Err(Refusal::OutOfRange);
     }
-    let m = check_numbers(frame);
-    if !m.ok {
-        return 6;
-    }
+    let x = check_numbers(frame).ok_or(Refusal::NotFinite)?;
     if reply.len() < RECORD {
-        return 8;
+        return Err(Refusal::Places);
     }
-    let x = m.x;
     check_reply(x, frame, reply);
-    0
+    Ok(())
 }

@@ -1,19 +1,19 @@
 // Kinds 01 to 05 and 08: a shape on a default profile after `set_boundary`; kinds 11 to 15: the same, with count and
-// cause; kinds 06 and 07: the quartics of a shape. The twelve numbers, the solver and the quartics are worked out once.
-ghost use Rattle.std.specs.Prelude.{◌≡◌, true, cond};
+// cause; kinds 06 and 07: the quartics of a shape. The solver and the quartics are worked out once a line.
+ghost use Rattle.std.specs.Prelude.{◌≡◌};
 ghost use Rattle.hex_bytes.specs.Hex.{Filled};
+ghost use Rattle.step2_solver.specs.New.{solver_of, limits_of};
 ghost use Rattle.position_third_step2.specs.Shape.{shape_of, fresh};
-ghost use Rattle.line_kinds.specs.Kinds.{quartics_places};
+ghost use Rattle.line_kinds.specs.declared.Asks.TheVariants.{OfQuartics};
+ghost use Rattle.line_kinds.specs.Refusals.{number_of};
 ghost use Rattle.line_frame.specs.Frame.{byte_at};
-ghost use Rattle.line_questions.specs.Questions.{counts_fit_of};
 ghost use Rattle.profile.specs.Parts.{checked_in};
-ghost use Rattle.line_reply.specs.Reply.{written_of};
-ghost use Rattle.line_answers.specs.QuarticLine.{both_bytes};
 ghost use Rattle.line_answers.specs.ShapeLine.{shape_places, shape_written};
 ghost use Rattle.line_answers.specs.FrameAnswer.{Answer, of_shape, frame_answer_of};
 
 use labels::start_labels;
 use line_frame::{first_answer, move_numbers, second_answer};
+use line_kinds::refusals::Refusal;
 use line_kinds::{CAUSES, FRAME, QUARTICS, RECORD};
 use line_questions::{counts_fit, counts_suit};
 use line_reply::{write_causes, write_quartics, write_record};
@@ -24,28 +24,38 @@ use row::{NUMBERS, start};
 use step2_quartics::{Quartics, quartics_of};
 use step2_solver::{Limits, Move, PositionThirdOrderStep2, Shape};
 
-// A shape's reply: the record, or the record with count and cause.
-fn write_answer(causes: bool, reply: &mut [u8], answer: Verdict, x: &[f64; NUMBERS]) -> bool
-    ensures { record { ok = result; left = reply.new }
-        ≡ shape_written causes (checked_in x.now answer) reply.old }
-{
-    if causes {
-        write_causes(reply, answer, x)
-    } else {
-        write_record(reply, answer, x)
-    }
+// What a line wants of a shape: its record, or the record with count and cause.
+#[derive(Clone, Copy)]
+pub enum Wanted {
+    Record,
+    Causes,
 }
 
-// How many places it takes.
-fn places_of(causes: bool) -> usize
-    ensures { result ≡ shape_places causes }
-{
-    if causes { CAUSES } else { RECORD }
+impl Wanted {
+    // How many places it takes.
+    fn places(self) -> usize
+        ensures { result ≡ shape_places self }
+    {
+        match self {
+            Wanted::Record => RECORD,
+            Wanted::Causes => CAUSES,
+        }
+    }
+
+    fn write(self, reply: &mut [u8], answer: Verdict, x: &[f64; NUMBERS]) -> bool
+        ensures { record { ok = result; left = reply.new }
+            ≡ shape_written self (checked_in x.now answer) reply.old }
+    {
+        match self {
+            Wanted::Record => write_record(reply, answer, x),
+            Wanted::Causes => write_causes(reply, answer, x),
+        }
+    }
 }
 
 // The reply, of numbers that are read and worked out.
 fn shape_reply(
-    causes: bool,
+    wanted: Wanted,
     shape: Shape,
     x: Move,
     s: PositionThirdOrderStep2,
@@ -56,70 +66,37 @@ fn shape_reply(
     reply: &mut [u8],
 ) -> bool
     ensures { record { ok = result; left = reply.new }
-        ≡ shape_written causes (shape_of shape s l q first second (fresh x)) reply.old }
+        ≡ shape_written wanted (shape_of shape s l q first second (fresh x)) reply.old }
 {
     let mut row = start(x.p0, x.v0, x.a0, x.pf, x.vf, x.af);
     let answer = ask(shape, s, l, q, first, second, &mut row, start_labels());
-    write_answer(causes, reply, answer, &row)
+    wanted.write(reply, answer, &row)
 }
 
-// Question 5, which has nothing to ask of a line that asks for the quartics alone.
-fn answers_fit(quartics: bool, shape: Shape, frame: &[u8; FRAME]) -> bool
-    ensures { result ≡ cond quartics true (counts_fit_of shape (byte_at frame.now)) }
-{
-    if quartics {
-        true
-    } else {
-        counts_fit(shape, frame)
-    }
-}
-
-fn quartics_reply(q: Quartics, reply: &mut [u8]) -> bool
-    ensures { record { ok = result; left = reply.new }
-        ≡ written_of quartics_places (both_bytes q) reply.old }
-{
-    let uddu = q.uddu;
-    let udud = q.udud;
-    write_quartics(reply, uddu, udud)
-}
-
-// A line of twelve numbers: it asks the quartics of a shape, or the shape, with count and cause or without.
 pub fn shape_line(
-    quartics: bool,
-    causes: bool,
+    wanted: Wanted,
     shape: Shape,
     frame: &[u8; FRAME],
     reply: &mut [u8],
-) -> u32
-    ensures { record { number = result; places = reply.new }
-        ≡ frame_answer_of (of_shape quartics causes shape) (byte_at frame.now) reply.old }
+) -> Result<(), Refusal>
+    ensures { record { number = number_of result; places = reply.new }
+        ≡ frame_answer_of (of_shape wanted shape) (byte_at frame.now) reply.old }
 {
-    if !answers_fit(quartics, shape, frame) {
-        return 5;
+    if !counts_fit(shape, frame) {
+        return Err(Refusal::OutOfRange);
     }
-    let m = move_numbers(frame);
-    if !m.ok {
-        return 6;
-    }
-    let x = m.x;
+    let x = move_numbers(frame).ok_or(Refusal::NotFinite)?;
     let s = x.solver();
     let l = x.limits();
     let q = quartics_of(shape, s, l);
-    if quartics {
-        if reply.len() < QUARTICS {
-            return 8;
-        }
-        quartics_reply(q, reply);
-        return 0;
-    }
     if !counts_suit(shape, q, frame) {
-        return 7;
+        return Err(Refusal::RootAnswers);
     }
-    if reply.len() < places_of(causes) {
-        return 8;
+    if reply.len() < wanted.places() {
+        return Err(Refusal::Places);
     }
     shape_reply(
-        causes,
+        wanted,
         shape,
         x,
         s,
@@ -129,5 +106,18 @@ pub fn shape_line(
         second_answer(frame),
         reply,
     );
-    0
+    Ok(())
+}
+
+pub fn quartics_line(shape: Shape, frame: &[u8; FRAME], reply: &mut [u8]) -> Result<(), Refusal>
+    ensures { record { number = number_of result; places = reply.new }
+        ≡ frame_answer_of (OfQuartics shape) (byte_at frame.now) reply.old }
+{
+    let x = move_numbers(frame).ok_or(Refusal::NotFinite)?;
+    if reply.len() < QUARTICS {
+        return Err(Refusal::Places);
+    }
+    let q = quartics_of(shape, x.solver(), x.limits());
+    write_quartics(reply, q.uddu, q.udud);
+    Ok(())
 }

@@ -1,2 +1,3 @@
--- Laws of the table of kinds.
+-- Laws of the table of kinds, and of the refusals.
 pub mod Rows
+pub mod Numbers

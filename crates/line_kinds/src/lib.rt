@@ -1,6 +1,8 @@
 // The kinds of line: one table, which the questions, the replies and the line program read.
 #![tactic(auto)]
 
+pub mod refusals;
+
 ghost use Rattle.std.specs.Prelude.{◌≡◌};
 ghost use Rattle.line_kinds.specs.Kinds.{takes_roots_of, row_of};
 
@@ -41,99 +43,45 @@ pub struct Row {
     pub asks: Asks,
 }
 
+impl Row {
+    fn new(bytes: usize, places: usize, asks: Asks) -> Row
+        ensures { result ≡ record { bytes = bytes; places = places; asks = asks } }
+    {
+        Row {
+            bytes,
+            places,
+            asks,
+        }
+    }
+}
+
 // Whether the shape tries the roots of quartics, so that a line has their answers.
 pub fn takes_roots(shape: Shape) -> bool
     ensures { result ≡ takes_roots_of shape }
 {
-    match shape {
-        Shape::Acc0Acc1Vel => false,
-        Shape::Acc1Vel => true,
-        Shape::Acc0Vel => true,
-        Shape::Acc0Acc1 => false,
-        Shape::Acc0 => false,
-        Shape::RestToRest => false,
-    }
+    matches!(shape, Shape::Acc1Vel | Shape::Acc0Vel)
 }
 
 // The row of a kind.
+#[tactic(auto, unfolding(crate::specs::Kinds::row_of))]
 pub fn row_of(kind: u8) -> Row
     ensures { result ≡ row_of kind }
 {
     match kind {
-        0x00 => Row {
-            bytes: 148,
-            places: RECORD,
-            asks: Asks::OfCheck,
-        },
-        0x01 => Row {
-            bytes: 97,
-            places: RECORD,
-            asks: Asks::OfShape(Shape::Acc0Acc1Vel),
-        },
-        0x02 => Row {
-            bytes: 147,
-            places: RECORD,
-            asks: Asks::OfShape(Shape::Acc1Vel),
-        },
-        0x03 => Row {
-            bytes: 147,
-            places: RECORD,
-            asks: Asks::OfShape(Shape::Acc0Vel),
-        },
-        0x04 => Row {
-            bytes: 97,
-            places: RECORD,
-            asks: Asks::OfShape(Shape::Acc0Acc1),
-        },
-        0x05 => Row {
-            bytes: 97,
-            places: RECORD,
-            asks: Asks::OfShape(Shape::Acc0),
-        },
-        0x06 => Row {
-            bytes: 97,
-            places: QUARTICS,
-            asks: Asks::OfQuartics(Shape::Acc1Vel),
-        },
-        0x07 => Row {
-            bytes: 97,
-            places: QUARTICS,
-            asks: Asks::OfQuartics(Shape::Acc0Vel),
-        },
-        0x08 => Row {
-            bytes: 97,
-            places: RECORD,
-            asks: Asks::OfShape(Shape::RestToRest),
-        },
-        0x11 => Row {
-            bytes: 97,
-            places: CAUSES,
-            asks: Asks::OfCauses(Shape::Acc0Acc1Vel),
-        },
-        0x12 => Row {
-            bytes: 147,
-            places: CAUSES,
-            asks: Asks::OfCauses(Shape::Acc1Vel),
-        },
-        0x13 => Row {
-            bytes: 147,
-            places: CAUSES,
-            asks: Asks::OfCauses(Shape::Acc0Vel),
-        },
-        0x14 => Row {
-            bytes: 97,
-            places: CAUSES,
-            asks: Asks::OfCauses(Shape::Acc0Acc1),
-        },
-        0x15 => Row {
-            bytes: 97,
-            places: CAUSES,
-            asks: Asks::OfCauses(Shape::Acc0),
-        },
-        _ => Row {
-            bytes: 0,
-            places: 0,
-            asks: Asks::NoKind,
-        },
+        0x00 => Row::new(148, RECORD, Asks::OfCheck),
+        0x01 => Row::new(97, RECORD, Asks::OfShape(Shape::Acc0Acc1Vel)),
+        0x02 => Row::new(147, RECORD, Asks::OfShape(Shape::Acc1Vel)),
+        0x03 => Row::new(147, RECORD, Asks::OfShape(Shape::Acc0Vel)),
+        0x04 => Row::new(97, RECORD, Asks::OfShape(Shape::Acc0Acc1)),
+        0x05 => Row::new(97, RECORD, Asks::OfShape(Shape::Acc0)),
+        0x06 => Row::new(97, QUARTICS, Asks::OfQuartics(Shape::Acc1Vel)),
+        0x07 => Row::new(97, QUARTICS, Asks::OfQuartics(Shape::Acc0Vel)),
+        0x08 => Row::new(97, RECORD, Asks::OfShape(Shape::RestToRest)),
+        0x11 => Row::new(97, CAUSES, Asks::OfCauses(Shape::Acc0Acc1Vel)),
+        0x12 => Row::new(147, CAUSES, Asks::OfCauses(Shape::Acc1Vel)),
+        0x13 => Row::new(147, CAUSES, Asks::OfCauses(Shape::Acc0Vel)),
+        0x14 => Row::new(97, CAUSES, Asks::OfCauses(Shape::Acc0Acc1)),
+        0x15 => Row::new(97, CAUSES, Asks::OfCauses(Shape::Acc0)),
+        _ => Row::new(0, 0, Asks::NoKind),
     }
 }

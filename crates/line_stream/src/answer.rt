@@ -1,5 +1,5 @@
 // A line's answer in characters.
-ghost use Rattle.std.specs.Prelude.{◌≡◌, ◌++◌, ◌∷◌, [], ◌+◌, ◌%◌, ◌≤◌, ◌<◌, length, take, set};
+ghost use Rattle.std.specs.Prelude.{◌≡◌, ◌++◌, ◌∷◌, [], ◌+◌, ◌%◌, ◌≤◌, ◌<◌, length, set};
 ghost use Rattle.line_cut.specs.Cut.{Put};
 ghost use Rattle.line_stream.specs.Output.{pair_of_digits, line_output, answer_most};
 
@@ -31,14 +31,13 @@ fn end_reply(out: &mut [u8], at: usize, filled: usize) -> usize
     at + filled + 1
 }
 
-// The answer to the line of the first `count` characters, from `at` on; says where it ends.
-pub fn write_line(text: &[u8], count: usize, out: &mut [u8], at: usize) -> usize
-    requires { (count ≤ length text.now) × (at + answer_most ≤ length out.old) }
-    ensures { Put out.old at (line_output (take count text.now)) result out.new }
+// The answer to a line, from `at` on; says where it ends.
+pub fn write_line(text: &[u8], out: &mut [u8], at: usize) -> usize
+    requires { at + answer_most ≤ length out.old }
+    ensures { Put out.old at (line_output text.now) result out.new }
 {
-    let a = answered(&text[..count], &mut out[at..]);
-    if a.number == 0 {
-        return end_reply(out, at, a.filled);
+    match answered(text, &mut out[at..]) {
+        Ok(filled) => end_reply(out, at, filled),
+        Err(refusal) => write_number(u32::from(refusal), out, at),
     }
-    write_number(a.number, out, at)
 }

@@ -38,15 +38,17 @@ fn end_line(part: &[u8], kept: &mut [u8], count: usize, out: &mut [u8], at: usiz
 {
     if count == 0 {
         let n = least(KEPT, part.len());
-        return write_line(part, n, out, at);
+        return write_line(&part[..n], out, at);
     }
     let n = keep(kept, count, part);
-    write_line(kept, n, out, at)
+    write_line(&kept[..n], out, at)
 }
 
 // Answers the lines that end in `input`, as long as `out` has room for another answer, `ROOM` places. The first `count`
 // places of `kept` hold the first characters of a line that began in an earlier call; `used` says where the next call
 // goes on.
+// Stays: `kept` with `count` beside it. The promises of `stream` and `finish` are for every count, also one above the
+// places; a type that keeps the count within them would be asked for, and promise less.
 pub fn stream(input: &[u8], kept: &mut [u8; KEPT], count: usize, out: &mut [u8]) -> Streamed
     ensures { Streams (call_of (length out.old) (take count kept.old) input.now)
         result.used result.count result.filled kept.new out.old out.new }
@@ -63,7 +65,7 @@ pub fn stream(input: &[u8], kept: &mut [u8; KEPT], count: usize, out: &mut [u8])
             return Streamed {
                 used: end,
                 count: n,
-                filled: filled,
+                filled,
             };
         }
         filled = end_line(&input[at..end], kept, count, out, filled);
@@ -72,8 +74,8 @@ pub fn stream(input: &[u8], kept: &mut [u8; KEPT], count: usize, out: &mut [u8])
     }
     Streamed {
         used: at,
-        count: count,
-        filled: filled,
+        count,
+        filled,
     }
 }
 
@@ -85,5 +87,5 @@ pub fn finish(kept: &[u8; KEPT], count: usize, out: &mut [u8; ROOM]) -> usize
     if n == 0 {
         return 0;
     }
-    write_line(kept, n, out, 0)
+    write_line(&kept[..n], out, 0)
 }

@@ -1,6 +1,7 @@
 -- What the line entry answers: a number, what the lent places hold after it, and how many are filled. Definitions only.
-use Rattle.std.specs.Prelude.{cond, List, ℕ, eqb, length}
+use Rattle.std.specs.Prelude.{cond, List, ℕ, eqb, length, Result, Ok, Err}
 use Rattle.hex_bytes.specs.Hex.{bytes_of}
+use Rattle.line_kinds.specs.declared.refusals.Refusal.{Refusal}
 use Rattle.line_kinds.specs.Kinds.{row_of}
 use Rattle.line_frame.specs.Frame.{byte_at}
 use Rattle.line_questions.specs.Questions.{questions}
@@ -17,6 +18,11 @@ pub record Outcome : Type 0 where
   pub number : ℕ
   pub filled : ℕ
   pub places : List ℕ
+
+-- what an answer in the code says of it
+abbrev pub filled_of : Result ℕ Refusal → ℕ
+filled_of (Ok filled) = filled
+filled_of (Err refusal) = 0
 
 unfoldable pub outcome_of : List ℕ → List ℕ → Outcome
 outcome_of line lent =

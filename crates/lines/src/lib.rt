@@ -3,59 +3,46 @@
 #![tactic(auto)]
 
 ghost use Rattle.std.specs.Prelude.{◌≡◌};
-ghost use Rattle.lines.specs.Answer.{answer_of, outcome_of};
+ghost use Rattle.line_kinds.specs.Refusals.{number_of};
+ghost use Rattle.lines.specs.Answer.{answer_of, filled_of, outcome_of};
 
 use hex_bytes::decode;
 use line_answers::reply_to;
+use line_kinds::refusals::Refusal;
 use line_kinds::{FRAME, row_of};
 use line_questions::length_fits;
 
-// The number, and how many of the lent places the reply fills.
-#[derive(Clone, Copy)]
-pub struct Numbered {
-    pub number: u32,
-    pub filled: usize,
-}
-
-pub fn answered(request: &[u8], reply: &mut [u8]) -> Numbered
-    ensures { record { number = result.number; filled = result.filled; places = reply.new }
+// How many of the lent places the reply fills, or why there is none.
+pub fn answered(request: &[u8], reply: &mut [u8]) -> Result<usize, Refusal>
+    ensures { record { number = number_of result; filled = filled_of result; places = reply.new }
         ≡ outcome_of request.now reply.old }
 {
     let n = request.len();
     if !length_fits(n) {
-        return Numbered {
-            number: 1,
-            filled: 0,
-        };
+        return Err(Refusal::Length);
     }
     let mut frame = [0u8; FRAME];
     if !decode(request, &mut frame) {
-        return Numbered {
-            number: 2,
-            filled: 0,
-        };
+        return Err(Refusal::Digits);
     }
     let row = row_of(frame[0]);
     if row.bytes == 0 {
-        return Numbered {
-            number: 3,
-            filled: 0,
-        };
+        return Err(Refusal::Kind);
     }
     if n / 2 != row.bytes {
-        return Numbered {
-            number: 4,
-            filled: 0,
-        };
+        return Err(Refusal::Bytes);
     }
-    let asks = row.asks;
-    let number = reply_to(asks, &frame, reply);
-    if number != 0 {
-        return Numbered { number, filled: 0 };
-    }
-    Numbered {
-        number: 0,
-        filled: row.places,
+    reply_to(row.asks, &frame, reply)?;
+    Ok(row.places)
+}
+
+// Document 01's number of an answer: 0 of a reply.
+fn number(answer: Result<usize, Refusal>) -> u32
+    ensures { result ≡ number_of answer }
+{
+    match answer {
+        Ok(_) => 0,
+        Err(refusal) => u32::from(refusal),
     }
 }
 
@@ -63,8 +50,7 @@ pub fn answer_line(request: &[u8], reply: &mut [u8]) -> u32
     ensures { record { number = result; places = reply.new }
         ≡ answer_of request.now reply.old }
 {
-    let a = answered(request, reply);
-    a.number
+    number(answered(request, reply))
 }
 
 // The same with the count, for a host that does not know the kinds.
@@ -72,7 +58,7 @@ pub fn answer_counted(request: &[u8], reply: &mut [u8], filled: &mut usize) -> u
     ensures { record { number = result; filled = filled.new; places = reply.new }
         ≡ outcome_of request.now reply.old }
 {
-    let a = answered(request, reply);
-    *filled = a.filled;
-    a.number
+    let answer = answered(request, reply);
+    *filled = answer.unwrap_or(0);
+    number(answer)
 }

@@ -18,6 +18,22 @@ use std::io::{ErrorKind, Read, Write};
 use step2_quartics::quartics_of;
 use step2_solver::{Move, Shape};
 
+// What is worked out of a frame whose numbers are not all finite. The list has none.
+const ZEROS: Move = Move {
+    tf: 0.0,
+    p0: 0.0,
+    v0: 0.0,
+    a0: 0.0,
+    pf: 0.0,
+    vf: 0.0,
+    af: 0.0,
+    v_max: 0.0,
+    v_min: 0.0,
+    a_max: 0.0,
+    a_min: 0.0,
+    j_max: 0.0,
+};
+
 fn verdict(c: Checked) -> Verdict {
     let q = c.profile;
     Verdict {
@@ -66,7 +82,7 @@ fn checked(frame: &[u8; FRAME], x: CheckNumbers) -> Checked {
 }
 
 fn tried(shape: Shape, frame: &[u8; FRAME]) -> Checked {
-    let x = move_numbers(frame).x;
+    let x = move_numbers(frame).unwrap_or(ZEROS);
     let first = first_answer(frame);
     let second = second_answer(frame);
     let s = x.solver();
@@ -89,9 +105,15 @@ fn tried(shape: Shape, frame: &[u8; FRAME]) -> Checked {
 fn send_reply(output: &mut impl Write, asks: Asks, frame: &[u8; FRAME]) -> io::Result<bool> {
     match asks {
         Asks::NoKind => return Ok(false),
-        Asks::OfCheck => send_record(output, checked(frame, check_numbers(frame).x))?,
+        Asks::OfCheck => {
+            let x = check_numbers(frame).unwrap_or_default();
+            send_record(output, checked(frame, x))?
+        }
         Asks::OfShape(shape) => send_record(output, tried(shape, frame))?,
-        Asks::OfQuartics(shape) => send_quartics(output, shape, move_numbers(frame).x)?,
+        Asks::OfQuartics(shape) => {
+            let x = move_numbers(frame).unwrap_or(ZEROS);
+            send_quartics(output, shape, x)?
+        }
         Asks::OfCauses(shape) => send_causes(output, tried(shape, frame))?,
     }
     Ok(true)

@@ -181,7 +181,7 @@ fn send_reply(
     j_max: f64,
     tf: f64,
 ) -> io::Result<bool> {
-    let x = check_numbers(frame).x;
+    let x = check_numbers(frame).unwrap_or_default();
     let marked = what >= 4;
     match what {
         0 | 4 => send_lent(output, frame, x, marked)?,

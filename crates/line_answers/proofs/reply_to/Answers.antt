@@ -16,7 +16,3 @@ returns-in-NoKind c =
     let lent = c.args.reply.now in
     rw c.in-NoKind.is
     (replied [] lent (ask 8 (leb 0 (length lent)) ∷ []) (le-leb 0 (length lent) zero-le, tt) lent refl)
-
-pub returns-in-OfCheck : goal.returns-in-OfCheck
-returns-in-OfCheck c =
-    rw c.in-OfCheck.is c.check_line.ensures

@@ -13,13 +13,6 @@ returns-then-count-eq0 c =
     c.least-n.ensures)
     c.write_line.ensures
 
-pub write_line-requires-2 : goal.write_line-requires-2
-write_line-requires-2 c =
-    let h : length c.keep-n.new.kept ≡ length c.args.kept.now = search rules in (
-      rw h (keeps_fits c.args.kept.now c.args.part.now _ c.args.count _ c.keep-n.ensures),
-      c.requires.answer_most_in_bounds,
-    )
-
 pub returns : goal.returns
 returns c =
     put_same c.args.out.now c.args.at _ _ _ _

@@ -6,4 +6,5 @@ use Rattle.lines.proofs.answer_line.Goals as goal
 pub returns : goal.returns
 unfolding outcome_of
 returns c =
-    ap (λ (o : Outcome). record { number = o.number; places = o.places }) c.answered-a.ensures
+    rw c.number.ensures
+    (ap (λ (o : Outcome). record { number = o.number; places = o.places }) c.answered.ensures)

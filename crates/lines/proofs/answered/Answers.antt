@@ -1,5 +1,7 @@
 -- The line entry is `outcome_of`: one law for each way out (Entry.antt). Assumes nothing.
-use mathlib.Core.Path.{sym, ◌∙◌}
+use mathlib.Core.Path.{refl, sym, ◌∙◌}
+use Rattle.line_kinds.proofs.Numbers.{not_0}
+use Rattle.line_answers.proofs.Replies.{passed_on}
 use Rattle.lines.proofs.Entry.{first, second, third, fourth, later, all}
 use Rattle.lines.proofs.answered.Goals as goal
 
@@ -24,14 +26,15 @@ returns-then-n-row c =
     (sym c.length_fits.ensures ∙ c.if-not-length_fits.false) c.decode.ensures c.if-not-decode.false
     c.row_of-row.ensures c.if-row-eq0.false c.if-n-row.true
 
-pub returns-then-number-ne0 : goal.returns-then-number-ne0
-returns-then-number-ne0 c =
-    later c.args.request.now c.args.reply.now
+pub returns-in_err-reply_to : goal.returns-in_err-reply_to
+returns-in_err-reply_to c =
+    rw (passed_on c.from_residual.result c.from_residual.ensures)
+    (later c.args.request.now c.args.reply.now
     (sym c.length_fits.ensures ∙ c.if-not-length_fits.false) c.decode.ensures c.if-not-decode.false
-    c.row_of-row.ensures c.if-row-eq0.false c.if-n-row.false c.reply_to-number.ensures c.if-number-ne0.true
+    c.row_of-row.ensures c.if-row-eq0.false c.if-n-row.false (rw c.in_err-reply_to.was at c.reply_to.ensures) (not_0 _))
 
 pub returns : goal.returns
 returns c =
     all c.args.request.now c.args.reply.now
     (sym c.length_fits.ensures ∙ c.if-not-length_fits.false) c.decode.ensures c.if-not-decode.false
-    c.row_of-row.ensures c.if-row-eq0.false c.if-n-row.false c.reply_to-number.ensures c.if-number-ne0.false
+    c.row_of-row.ensures c.if-row-eq0.false c.if-n-row.false (rw c.in_ok-reply_to.was at c.reply_to.ensures) refl

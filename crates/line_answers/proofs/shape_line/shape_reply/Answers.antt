@@ -11,8 +11,8 @@ pub returns : goal.returns
 unfolding profile_in
 returns c =
     let lent = c.args.reply.now in
-    c.write_answer.ensures
-    ∙ ap (λ (y : Checked). shape_written c.args.causes y lent)
+    c.write.ensures
+    ∙ ap (λ (y : Checked). shape_written c.args.wanted y lent)
     (shaped c.start_labels.ensures
     (shape_of c.args.shape c.args.s c.args.l c.args.q c.args.first c.args.second) c.args.x
     c.start-row.ensures c.ask-answer.ensures)
