@@ -2,37 +2,19 @@
 // The list is made by oracle/lists.sh, seed 1, with what the Rust's `integrate` answers.
 #![tactic(auto)]
 
-use digits::{from_digits, to_digits};
+use digits::{from_digits, read_line, to_digits};
 use std::io;
-use std::io::{ErrorKind, Read, Write};
+use std::io::{Read, Write};
 use util::{State, integrate};
 
-// A state, and whether a line asked for it.
-#[derive(Clone, Copy)]
-struct Reply {
-    ok: bool,
-    state: State,
-}
-
-fn answer(line: &[u8; 81]) -> Reply {
-    let t = from_digits(line, 0);
-    let p0 = from_digits(line, 16);
-    let v0 = from_digits(line, 32);
-    let a0 = from_digits(line, 48);
-    let j = from_digits(line, 64);
-    Reply {
-        ok: t.ok & p0.ok & v0.ok & a0.ok & j.ok,
-        state: integrate(t.x, p0.x, v0.x, a0.x, j.x),
-    }
-}
-
-// Fills `line`, or says that the input ended before.
-fn read_line(input: &mut impl Read, line: &mut [u8]) -> io::Result<bool> {
-    match input.read_exact(line) {
-        Ok(()) => Ok(true),
-        Err(e) if e.kind() == ErrorKind::UnexpectedEof => Ok(false),
-        Err(e) => Err(e),
-    }
+// The state that a line asks for, if it is a line of the list.
+fn answer(line: &[u8; 81]) -> Option<State> {
+    let t = from_digits(line, 0)?;
+    let p0 = from_digits(line, 16)?;
+    let v0 = from_digits(line, 32)?;
+    let a0 = from_digits(line, 48)?;
+    let j = from_digits(line, 64)?;
+    Some(integrate(t, p0, v0, a0, j))
 }
 
 // Answers one line, and whether there was one.
@@ -41,11 +23,9 @@ fn answer_line(input: &mut impl Read, output: &mut impl Write) -> io::Result<boo
     if !read_line(input, &mut line)? {
         return Ok(false);
     }
-    let reply = answer(&line);
-    if !reply.ok {
+    let Some(state) = answer(&line) else {
         return Ok(false);
-    }
-    let state = reply.state;
+    };
     output.write_all(&to_digits(state.p))?;
     output.write_all(&to_digits(state.v))?;
     output.write_all(&to_digits(state.a))?;

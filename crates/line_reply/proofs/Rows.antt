@@ -1,4 +1,4 @@
--- Runs of stores: eight, one after another, over a whole list; and the rows of numbers in a reply. Assumes nothing.
+-- Runs of stores: one after another, over a whole list; and the rows of numbers in a reply. Assumes nothing.
 use mathlib.Core.Path.{◌≡◌, refl, ap, sym, ◌∙◌}
 use mathlib.Core.List.{List, [], ◌∷◌, ◌++◌, append_assoc, append-nil}
 use Prim.Native.Nat.{ℕ, suc, ◌+◌, ◌*◌, ◌≤◌, ◌<◌}
@@ -17,20 +17,6 @@ use Rattle.roots.specs.declared.Three.{Three}
 use Rattle.roots.specs.Quartic.{need_of, need_number_of, resolvent_of}
 use Rattle.profile.specs.Parts.{profile_in, checked_in}
 use Rattle.line_reply.specs.Reply.{numbers_bytes, head_of, rows_of, reply_bytes_of, quartic_bytes_of}
-
-pub eight : (l : List ℕ) (i b0 b1 b2 b3 b4 b5 b6 b7 : ℕ)
-    → set (set (set (set (set (set (set (set l i b0) (i + 1) b1) (i + 2) b2) (i + 3) b3) (i + 4) b4) (i + 5) b5)
-    (i + 6) b6) (i + 7) b7
-    ≡ sets l i (b0 ∷ b1 ∷ b2 ∷ b3 ∷ b4 ∷ b5 ∷ b6 ∷ b7 ∷ [])
-eight l i b0 b1 b2 b3 b4 b5 b6 b7 =
-    let e1 : i + 1 ≡ suc i = omega arith in
-    let e2 : i + 2 ≡ suc (suc i) = omega arith in
-    let e3 : i + 3 ≡ suc (suc (suc i)) = omega arith in
-    let e4 : i + 4 ≡ suc (suc (suc (suc i))) = omega arith in
-    let e5 : i + 5 ≡ suc (suc (suc (suc (suc i)))) = omega arith in
-    let e6 : i + 6 ≡ suc (suc (suc (suc (suc (suc i))))) = omega arith in
-    let e7 : i + 7 ≡ suc (suc (suc (suc (suc (suc (suc i)))))) = omega arith in
-    rw (e1, e2, e3, e4, e5, e6, e7)
 
 pub sets_append : (xs ys l : List ℕ) (i : ℕ) → sets (sets l i xs) (i + length xs) ys ≡ sets l i (xs ++ ys)
 sets_append [] ys l i = rw (add-zero i)

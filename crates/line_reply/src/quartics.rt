@@ -11,9 +11,10 @@ fn put_quartic(bytes: &mut [u8], at: usize, p: [f64; 4])
     requires { at + 57 ≤ length bytes.old }
     ensures { bytes.new ≡ sets bytes.old at (quartic_bytes p) }
 {
-    let r = resolvent_arguments(p[0], p[1], p[2], p[3]);
-    let row = [p[0], p[1], p[2], p[3], r.x0, r.x1, r.x2];
-    bytes[at] = u8::from(quartic_need(p[0], p[1], p[2], p[3]));
+    let [a, b, c, d] = p;
+    let r = resolvent_arguments(a, b, c, d);
+    let row = [a, b, c, d, r.x0, r.x1, r.x2];
+    bytes[at] = u8::from(quartic_need(a, b, c, d));
     put_row(bytes, at + 1, &row);
 }
 

@@ -10,22 +10,14 @@ fn put(bytes: &mut [u8], at: usize, x: f64)
     requires { at + 8 ≤ length bytes.old }
     ensures { bytes.new ≡ sets bytes.old at (number_bytes_of x) }
 {
-    let b = to_be_bytes(x);
-    bytes[at] = b[0];
-    bytes[at + 1] = b[1];
-    bytes[at + 2] = b[2];
-    bytes[at + 3] = b[3];
-    bytes[at + 4] = b[4];
-    bytes[at + 5] = b[5];
-    bytes[at + 6] = b[6];
-    bytes[at + 7] = b[7];
+    bytes[at..at + 8].copy_from_slice(&to_be_bytes(x));
 }
 
 pub fn put_row(bytes: &mut [u8], at: usize, row: &[f64])
     requires { at + 8 * length row.now ≤ length bytes.old }
     ensures { bytes.new ≡ sets bytes.old at (numbers_bytes row.now) }
 {
-    for i in 0..row.len() {
-        put(bytes, at + 8 * i, row[i]);
+    for (i, &x) in row.iter().enumerate() {
+        put(bytes, at + 8 * i, x);
     }
 }

@@ -3,6 +3,7 @@
 // shapes, causes and rest, one after the other, with the oracle's replies.
 #![tactic(auto)]
 
+use digits::read_line;
 use hex_bytes::decode;
 use labels::{ControlSigns, ReachedLimits};
 use line_frame::{CheckNumbers, check_numbers, first_answer, move_numbers, second_answer};
@@ -14,7 +15,7 @@ use position_third_step2::{
 use profile::in_place::Verdict;
 use profile::{Checked, Profile};
 use std::io;
-use std::io::{ErrorKind, Read, Write};
+use std::io::{Read, Write};
 use step2_quartics::quartics_of;
 use step2_solver::{Move, Shape};
 
@@ -117,15 +118,6 @@ fn send_reply(output: &mut impl Write, asks: Asks, frame: &[u8; FRAME]) -> io::R
         Asks::OfCauses(shape) => send_causes(output, tried(shape, frame))?,
     }
     Ok(true)
-}
-
-// Fills `line`, or says that the input ended before.
-fn read_line(input: &mut impl Read, line: &mut [u8]) -> io::Result<bool> {
-    match input.read_exact(line) {
-        Ok(()) => Ok(true),
-        Err(e) if e.kind() == ErrorKind::UnexpectedEof => Ok(false),
-        Err(e) => Err(e),
-    }
 }
 
 // Fills `line`, takes the line feed after it, and puts its bytes into `bytes`.

@@ -6,7 +6,7 @@
 // The list is made by oracle/lists.sh, seed 1, with what the Rust answers.
 #![tactic(auto)]
 
-use digits::{byte_to_digits, from_digits};
+use digits::{byte_to_digits, from_digits, read_line};
 use float::is_finite;
 use hex_bytes::decode;
 use labels::{ControlSigns, ReachedLimits};
@@ -16,15 +16,49 @@ use line_reply::write_causes;
 use profile::in_place::Verdict;
 use profile::{Checked, Profile};
 use std::io;
-use std::io::{ErrorKind, Read, Write};
+use std::io::{Read, Write};
 
-// What `check` answers and leaves, and what `check_with_timing` then makes of the record that was left.
+// What is called for a frame.
 #[derive(Clone, Copy)]
-struct Twice {
-    ok: bool,
-    left: Profile,
-    again: bool,
-    last: Profile,
+enum Function {
+    // The three lent functions, one after the other.
+    Lent,
+    CheckWithTiming,
+    CheckWithTimingFull,
+}
+
+// What a line's first byte says.
+#[derive(Clone, Copy)]
+enum Call {
+    IsFinite,
+    OfFrame { function: Function, marked: bool },
+}
+
+// A first byte that says nothing.
+struct NoCall;
+
+impl TryFrom<u8> for Call {
+    type Error = NoCall;
+
+    fn try_from(number: u8) -> Result<Call, NoCall> {
+        let function = match number {
+            0 | 4 => Function::Lent,
+            1 | 5 => Function::CheckWithTiming,
+            2 | 6 => Function::CheckWithTimingFull,
+            3 => return Ok(Call::IsFinite),
+            _ => return Err(NoCall),
+        };
+        let marked = number >= 4;
+        Ok(Call::OfFrame { function, marked })
+    }
+}
+
+// The rest of a line but for its line feed.
+#[derive(Clone, Copy)]
+struct Rest {
+    frame: [u8; FRAME],
+    j_max: f64,
+    tf: f64,
 }
 
 fn send_record(output: &mut impl Write, c: Checked) -> io::Result<()> {
@@ -38,55 +72,37 @@ fn send_record(output: &mut impl Write, c: Checked) -> io::Result<()> {
     output.write_all(&reply)
 }
 
+// What `check` answers and leaves, and what `check_with_timing` then makes of the record that was left.
 // The one function that makes a reference to a record.
-fn lent(
-    mut p: Profile,
-    p0: f64,
-    v0: f64,
-    a0: f64,
-    pf: f64,
-    vf: f64,
-    af: f64,
-    control_signs: ControlSigns,
-    limits: ReachedLimits,
-    set_limits: bool,
-    jf: f64,
-    v_max: f64,
-    v_min: f64,
-    a_max: f64,
-    a_min: f64,
-    marked: bool,
-) -> Twice {
-    profile_lent::set_boundary(&mut p, p0, v0, a0, pf, vf, af);
+fn lent(frame: &[u8; FRAME], x: CheckNumbers, marked: bool) -> [Checked; 2] {
+    let control_signs = ControlSigns::from(frame[1]);
+    let limits = ReachedLimits::from(frame[2]);
+    let mut p = timed(x);
+    profile_lent::set_boundary(&mut p, x.p0, x.v0, x.a0, x.pf, x.vf, x.af);
     let ok = profile_lent::check(
         &mut p,
         control_signs,
         limits,
-        set_limits,
-        jf,
-        v_max,
-        v_min,
-        a_max,
-        a_min,
+        frame[3] == 1,
+        x.jf,
+        x.v_max,
+        x.v_min,
+        x.a_max,
+        x.a_min,
     );
-    let left = p;
-    let again = profile_lent::check_with_timing(
+    let first = Checked { ok, profile: p };
+    let ok = profile_lent::check_with_timing(
         &mut p,
         control_signs,
         limits,
-        jf,
-        v_max,
-        v_min,
-        a_max,
-        a_min,
+        x.jf,
+        x.v_max,
+        x.v_min,
+        x.a_max,
+        x.a_min,
         marked,
     );
-    Twice {
-        ok,
-        left,
-        again,
-        last: p,
-    }
+    [first, Checked { ok, profile: p }]
 }
 
 // A default record with the times of a line.
@@ -103,36 +119,10 @@ fn send_lent(
     x: CheckNumbers,
     marked: bool,
 ) -> io::Result<()> {
-    let r = lent(
-        timed(x),
-        x.p0,
-        x.v0,
-        x.a0,
-        x.pf,
-        x.vf,
-        x.af,
-        ControlSigns::from(frame[1]),
-        ReachedLimits::from(frame[2]),
-        frame[3] == 1,
-        x.jf,
-        x.v_max,
-        x.v_min,
-        x.a_max,
-        x.a_min,
-        marked,
-    );
-    let left = r.left;
-    let last = r.last;
-    let first = Checked {
-        ok: r.ok,
-        profile: left,
-    };
-    let second = Checked {
-        ok: r.again,
-        profile: last,
-    };
-    send_record(output, first)?;
-    send_record(output, second)
+    for c in lent(frame, x, marked) {
+        send_record(output, c)?;
+    }
+    Ok(())
 }
 
 fn bounded(x: CheckNumbers) -> Profile {
@@ -173,51 +163,64 @@ fn with_timing_full(
     )
 }
 
-// Whether `what` says what is called.
 fn send_reply(
     output: &mut impl Write,
-    what: u8,
-    frame: &[u8; FRAME],
-    j_max: f64,
-    tf: f64,
-) -> io::Result<bool> {
+    function: Function,
+    marked: bool,
+    rest: &Rest,
+) -> io::Result<()> {
+    let frame = &rest.frame;
     let x = check_numbers(frame).unwrap_or_default();
-    let marked = what >= 4;
-    match what {
-        0 | 4 => send_lent(output, frame, x, marked)?,
-        1 | 5 => send_record(output, with_timing(frame, x, marked))?,
-        2 | 6 => send_record(output, with_timing_full(frame, x, tf, j_max, marked))?,
-        _ => return Ok(false),
-    }
-    Ok(true)
-}
-
-// Fills `line`, or says that the input ended before.
-fn read_line(input: &mut impl Read, line: &mut [u8]) -> io::Result<bool> {
-    match input.read_exact(line) {
-        Ok(()) => Ok(true),
-        Err(e) if e.kind() == ErrorKind::UnexpectedEof => Ok(false),
-        Err(e) => Err(e),
+    match function {
+        Function::Lent => send_lent(output, frame, x, marked),
+        Function::CheckWithTiming => send_record(output, with_timing(frame, x, marked)),
+        Function::CheckWithTimingFull => send_record(
+            output,
+            with_timing_full(frame, x, rest.tf, rest.j_max, marked),
+        ),
     }
 }
 
 // The rest of a line after its first byte: the other bytes of the frame; j_max, tf and a line feed.
-fn answer_check(input: &mut impl Read, output: &mut impl Write, what: u8) -> io::Result<bool> {
+fn read_rest(input: &mut impl Read) -> io::Result<Option<Rest>> {
     let mut line = [0u8; 294];
     if !read_line(input, &mut line)? {
-        return Ok(false);
+        return Ok(None);
     }
     let mut after = [0u8; 33];
     if !read_line(input, &mut after)? {
-        return Ok(false);
+        return Ok(None);
     }
+    Ok(rest_of(&line, &after))
+}
+
+fn rest_of(line: &[u8; 294], after: &[u8; 33]) -> Option<Rest> {
     let mut frame = [0u8; FRAME];
-    let j_max = from_digits(&after, 0);
-    let tf = from_digits(&after, 16);
-    if !(decode(&line, &mut frame[1..]) & j_max.ok & tf.ok) {
-        return Ok(false);
+    let j_max = from_digits(after, 0)?;
+    let tf = from_digits(after, 16)?;
+    if !decode(line, &mut frame[1..]) {
+        return None;
     }
-    send_reply(output, what, &frame, j_max.x, tf.x)
+    Some(Rest { frame, j_max, tf })
+}
+
+fn answer_frame(
+    input: &mut impl Read,
+    output: &mut impl Write,
+    function: Function,
+    marked: bool,
+) -> io::Result<bool> {
+    let Some(rest) = read_rest(input)? else {
+        return Ok(false);
+    };
+    send_reply(output, function, marked, &rest)?;
+    Ok(true)
+}
+
+// The rest of a line that says nothing is read all the same.
+fn answer_none(input: &mut impl Read) -> io::Result<bool> {
+    read_rest(input)?;
+    Ok(false)
 }
 
 fn answer_finite(input: &mut impl Read, output: &mut impl Write) -> io::Result<bool> {
@@ -225,15 +228,10 @@ fn answer_finite(input: &mut impl Read, output: &mut impl Write) -> io::Result<b
     if !read_line(input, &mut line)? {
         return Ok(false);
     }
-    let x = from_digits(&line, 0);
-    if !x.ok {
+    let Some(x) = from_digits(&line, 0) else {
         return Ok(false);
-    }
-    let mut answer = 0u8;
-    if is_finite(x.x) {
-        answer = 1;
-    }
-    output.write_all(&byte_to_digits(answer))?;
+    };
+    output.write_all(&byte_to_digits(u8::from(is_finite(x))))?;
     Ok(true)
 }
 
@@ -247,10 +245,10 @@ fn answer_line(input: &mut impl Read, output: &mut impl Write) -> io::Result<boo
     if !decode(&first, &mut what) {
         return Ok(false);
     }
-    let answered = if what[0] == 3 {
-        answer_finite(input, output)?
-    } else {
-        answer_check(input, output, what[0])?
+    let answered = match Call::try_from(what[0]) {
+        Ok(Call::IsFinite) => answer_finite(input, output)?,
+        Ok(Call::OfFrame { function, marked }) => answer_frame(input, output, function, marked)?,
+        Err(NoCall) => answer_none(input)?,
     };
     output.write_all(b"\n")?;
     Ok(answered)

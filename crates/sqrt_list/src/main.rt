@@ -4,31 +4,14 @@
 // published there (Debian libpython3.11-testsuite 3.11.2-6+deb12u9).
 #![tactic(auto)]
 
-use digits::{byte_to_digits, from_digits, to_digits};
+use digits::{byte_to_digits, from_digits, read_line, to_digits};
 use sqrt::{is_mark, sqrt, to_f64};
 use std::io;
-use std::io::{ErrorKind, Read, Write};
-
-fn number(line: &[u8; 17]) -> digits::Read {
-    from_digits(line, 0)
-}
+use std::io::{Read, Write};
 
 fn send_root(output: &mut impl Write, root: Option<f64>) -> io::Result<()> {
-    let mut mark = 0u8;
-    if is_mark(root) {
-        mark = 1;
-    }
     output.write_all(&to_digits(to_f64(root)))?;
-    output.write_all(&byte_to_digits(mark))
-}
-
-// Fills `line`, or says that the input ended before.
-fn read_line(input: &mut impl Read, line: &mut [u8]) -> io::Result<bool> {
-    match input.read_exact(line) {
-        Ok(()) => Ok(true),
-        Err(e) if e.kind() == ErrorKind::UnexpectedEof => Ok(false),
-        Err(e) => Err(e),
-    }
+    output.write_all(&byte_to_digits(u8::from(is_mark(root))))
 }
 
 // Answers one line, and whether there was one.
@@ -37,11 +20,10 @@ fn answer_line(input: &mut impl Read, output: &mut impl Write) -> io::Result<boo
     if !read_line(input, &mut line)? {
         return Ok(false);
     }
-    let read = number(&line);
-    if !read.ok {
+    let Some(x) = from_digits(&line, 0) else {
         return Ok(false);
-    }
-    send_root(output, sqrt(read.x))?;
+    };
+    send_root(output, sqrt(x))?;
     output.write_all(b"\n")?;
     Ok(true)
 }
