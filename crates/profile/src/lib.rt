@@ -49,6 +49,15 @@ pub struct Checked {
     pub profile: Profile,
 }
 
+impl Default for Profile {
+    ghost is_default = { λ q. q ≡ default_of };
+
+    #[tactic(auto, unfolding(crate::specs::Parts::profile_in))]
+    fn default() -> Profile {
+        Profile::from_row(start(0.0, 0.0, 0.0, 0.0, 0.0, 0.0), start_labels())
+    }
+}
+
 impl Profile {
     // A profile by its row and its labels; `row` and `labels` take one apart. Its fields are named here alone.
     #[tactic(auto, unfolding(crate::specs::Parts::profile_in))]
@@ -94,14 +103,6 @@ impl Profile {
             calls: self.calls,
             cause: self.cause,
         }
-    }
-
-    // `Profile::default()`.
-    #[tactic(auto, unfolding(crate::specs::Parts::profile_in))]
-    pub fn default() -> Profile
-        ensures { result ≡ default_of }
-    {
-        Profile::from_row(start(0.0, 0.0, 0.0, 0.0, 0.0, 0.0), start_labels())
     }
 
     #[tactic(auto, unfolding(crate::specs::Boundary::boundary_of))]
