@@ -20,18 +20,13 @@ pub fn time_acc0(
         ≡ tried_of l (acc0_first s l ∷ acc0_second s l ∷ acc0_third s l ∷ [])
         (profile_in x.old labels) }
 {
-    let first = time_acc0::first(s, l);
-    let r0 = tried(first, l, x, labels);
-    if r0.ok {
-        return r0;
+    let r = tried(time_acc0::first(s, l), l, x, labels);
+    if r.ok {
+        return r;
     }
-    let left0 = r0.labels;
-    let second = time_acc0::second(s, l);
-    let r1 = tried(second, l, x, left0);
-    if r1.ok {
-        return r1;
+    let r = tried(time_acc0::second(s, l), l, x, r.labels);
+    if r.ok {
+        return r;
     }
-    let left1 = r1.labels;
-    let third = time_acc0::third(s, l);
-    tried(third, l, x, left1)
+    tried(time_acc0::third(s, l), l, x, r.labels)
 }

@@ -22,6 +22,5 @@ pub fn time_acc0_acc1(
         ≡ tried_of l (acc0_acc1_by rest_to_rest s l ∷ [])
         (profile_in x.old labels) }
 {
-    let attempt = time_acc0_acc1::attempt(rest_to_rest, s, l);
-    tried(attempt, l, x, labels)
+    tried(time_acc0_acc1::attempt(rest_to_rest, s, l), l, x, labels)
 }

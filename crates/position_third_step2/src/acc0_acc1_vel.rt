@@ -20,12 +20,9 @@ pub fn time_acc0_acc1_vel(
         ≡ tried_of l (acc0_acc1_vel_uddu s l ∷ acc0_acc1_vel_udud s l ∷ [])
         (profile_in x.old labels) }
 {
-    let uddu = time_acc0_acc1_vel::uddu(s, l);
-    let r = tried(uddu, l, x, labels);
+    let r = tried(time_acc0_acc1_vel::uddu(s, l), l, x, labels);
     if r.ok {
         return r;
     }
-    let left = r.labels;
-    let udud = time_acc0_acc1_vel::udud(s, l);
-    tried(udud, l, x, left)
+    tried(time_acc0_acc1_vel::udud(s, l), l, x, r.labels)
 }

@@ -18,18 +18,11 @@ use step2_solver::{Limits, PositionThirdOrderStep2, Shape};
 fn is_rest_to_rest(shape: Shape) -> bool
     ensures { result ≡ is_rest_to_rest_of shape }
 {
-    match shape {
-        Shape::Acc0Acc1Vel => false,
-        Shape::Acc1Vel => false,
-        Shape::Acc0Vel => false,
-        Shape::Acc0Acc1 => false,
-        Shape::Acc0 => false,
-        Shape::RestToRest => true,
-    }
+    matches!(shape, Shape::RestToRest)
 }
 
-// The quartics and the root answers are those of the second and third shape; the others do not look at them. The last
-// arm is the fourth shape's and kind 08's: one call for both takes a line less time than two.
+// The quartics and the root answers are those of the second and third shape; the others do not look at them. The fourth
+// shape and kind 08 have one arm: one call for both takes a line less time than two.
 pub fn ask(
     shape: Shape,
     s: PositionThirdOrderStep2,
@@ -49,6 +42,8 @@ pub fn ask(
         Shape::Acc1Vel => time_acc1_vel(s, l, q, first, second, x, labels),
         Shape::Acc0Vel => time_acc0_vel(s, l, q, first, second, x, labels),
         Shape::Acc0 => time_acc0(s, l, x, labels),
-        _ => time_acc0_acc1(is_rest_to_rest(shape), s, l, x, labels),
+        Shape::Acc0Acc1 | Shape::RestToRest => {
+            time_acc0_acc1(is_rest_to_rest(shape), s, l, x, labels)
+        }
     }
 }

@@ -18,6 +18,9 @@ use roots::RootAnswer;
 use step2_quartics::quartics_of;
 use step2_solver::{Limits, PositionThirdOrderStep2, Shape};
 
+// Stands for the answers of a shape that looks at none.
+const UNASKED: RootAnswer = RootAnswer::CubeRoot(0.0);
+
 // Any shape by value: on the row of the profile.
 fn asked(
     shape: Shape,
@@ -32,12 +35,25 @@ fn asked(
     let mut x = profile.row();
     let q = quartics_of(shape, s, l);
     let answer = ask(shape, s, l, q, first, second, &mut x, profile.labels());
-    let now = answer.labels;
     Checked {
         ok: answer.ok,
-        profile: Profile::from_row(x, now),
+        profile: Profile::from_row(x, answer.labels),
     }
 }
+
+fn limits(v_max: f64, v_min: f64, a_max: f64, a_min: f64, j_max: f64) -> Limits
+    ensures { result ≡ limits v_max v_min a_max a_min j_max }
+{
+    Limits {
+        v_max,
+        v_min,
+        a_max,
+        a_min,
+        j_max,
+    }
+}
+
+// Stays: six functions, each with the limits one by one: they are the Rust's by name, with its parameters in its order.
 
 pub fn time_acc0_acc1_vel(
     s: PositionThirdOrderStep2,
@@ -51,15 +67,8 @@ pub fn time_acc0_acc1_vel(
     ensures { result ≡ asked_of Acc0Acc1Vel s (limits v_max v_min a_max a_min j_max)
         unasked unasked profile }
 {
-    let l = Limits {
-        v_max,
-        v_min,
-        a_max,
-        a_min,
-        j_max,
-    };
-    let none = RootAnswer::CubeRoot(0.0);
-    asked(Shape::Acc0Acc1Vel, s, l, none, none, profile)
+    let l = limits(v_max, v_min, a_max, a_min, j_max);
+    asked(Shape::Acc0Acc1Vel, s, l, UNASKED, UNASKED, profile)
 }
 
 pub fn time_acc1_vel(
@@ -75,13 +84,7 @@ pub fn time_acc1_vel(
 ) -> Checked
     ensures { result ≡ asked_of Acc1Vel s (limits v_max v_min a_max a_min j_max) first second profile }
 {
-    let l = Limits {
-        v_max,
-        v_min,
-        a_max,
-        a_min,
-        j_max,
-    };
+    let l = limits(v_max, v_min, a_max, a_min, j_max);
     asked(Shape::Acc1Vel, s, l, first, second, profile)
 }
 
@@ -98,13 +101,7 @@ pub fn time_acc0_vel(
 ) -> Checked
     ensures { result ≡ asked_of Acc0Vel s (limits v_max v_min a_max a_min j_max) first second profile }
 {
-    let l = Limits {
-        v_max,
-        v_min,
-        a_max,
-        a_min,
-        j_max,
-    };
+    let l = limits(v_max, v_min, a_max, a_min, j_max);
     asked(Shape::Acc0Vel, s, l, first, second, profile)
 }
 
@@ -119,15 +116,8 @@ pub fn time_acc0_acc1(
 ) -> Checked
     ensures { result ≡ asked_of Acc0Acc1 s (limits v_max v_min a_max a_min j_max) unasked unasked profile }
 {
-    let l = Limits {
-        v_max,
-        v_min,
-        a_max,
-        a_min,
-        j_max,
-    };
-    let none = RootAnswer::CubeRoot(0.0);
-    asked(Shape::Acc0Acc1, s, l, none, none, profile)
+    let l = limits(v_max, v_min, a_max, a_min, j_max);
+    asked(Shape::Acc0Acc1, s, l, UNASKED, UNASKED, profile)
 }
 
 pub fn time_acc0(
@@ -141,15 +131,8 @@ pub fn time_acc0(
 ) -> Checked
     ensures { result ≡ asked_of Acc0 s (limits v_max v_min a_max a_min j_max) unasked unasked profile }
 {
-    let l = Limits {
-        v_max,
-        v_min,
-        a_max,
-        a_min,
-        j_max,
-    };
-    let none = RootAnswer::CubeRoot(0.0);
-    asked(Shape::Acc0, s, l, none, none, profile)
+    let l = limits(v_max, v_min, a_max, a_min, j_max);
+    asked(Shape::Acc0, s, l, UNASKED, UNASKED, profile)
 }
 
 // Document 02's, kind 08.
@@ -165,13 +148,6 @@ pub fn time_rest_to_rest(
     ensures { result ≡ asked_of RestToRest s (limits v_max v_min a_max a_min j_max)
         unasked unasked profile }
 {
-    let l = Limits {
-        v_max,
-        v_min,
-        a_max,
-        a_min,
-        j_max,
-    };
-    let none = RootAnswer::CubeRoot(0.0);
-    asked(Shape::RestToRest, s, l, none, none, profile)
+    let l = limits(v_max, v_min, a_max, a_min, j_max);
+    asked(Shape::RestToRest, s, l, UNASKED, UNASKED, profile)
 }

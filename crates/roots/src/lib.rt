@@ -55,7 +55,7 @@ fn small(x: f64) -> bool
 }
 
 // What has to be handed in for a quartic.
-// Stays: a, b, c and d one by one, here and below: a struct is no plainer, since each formula names them, as the Rust's.
+// Stays: a, b, c, d one by one, here and below: a struct is no plainer, since each formula names them, as in the Rust.
 #[tactic(auto, using(crate::proofs::Needs::d_alone), unfolding(crate::specs::Quartic::need_of))]
 pub fn quartic_need(a: f64, b: f64, c: f64, d: f64) -> Need
     ensures { result ≡ need_of a b c d }

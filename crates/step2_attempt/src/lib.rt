@@ -14,17 +14,10 @@ pub fn tried(k: Trial, l: Limits, x: &mut [f64; NUMBERS], labels: Labels) -> Ver
     ensures { checked_in x.new result ≡ try_of l k (profile_in x.old labels) }
 {
     if k.made {
-        let times = k.times;
-        let signs = k.signs;
-        let label = k.label;
-        set_times(
-            x,
-            [
-                times.t0, times.t1, times.t2, times.t3, times.t4, times.t5, times.t6,
-            ],
-        );
+        let t = k.times;
+        set_times(x, [t.t0, t.t1, t.t2, t.t3, t.t4, t.t5, t.t6]);
         check_with_timing(
-            x, labels, signs, label, k.jf, l.v_max, l.v_min, l.a_max, l.a_min, k.marked,
+            x, labels, k.signs, k.label, k.jf, l.v_max, l.v_min, l.a_max, l.a_min, k.marked,
         )
     } else {
         Verdict { ok: false, labels }

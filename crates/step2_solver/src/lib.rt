@@ -98,6 +98,7 @@ pub struct Times {
 
 // An attempt as data: what is put into the profile, and what `check` is told of it. It is marked where it takes a
 // square root that does not exist.
+// Stays: `made` beside the values, no Option: `no_trial_of` promises times of 0 (edit times_in_no_attempt).
 #[derive(Clone, Copy)]
 pub struct Trial {
     pub made: bool,
@@ -180,6 +181,7 @@ pub fn outside(w: Window, root: f64) -> bool
 
 impl PositionThirdOrderStep2 {
     // The limits other than j_max are taken, as by the Rust, and not used.
+    #[tactic(auto, unfolding(crate::specs::New::new_of))]
     pub fn new(
         tf: f64,
         p0: f64,

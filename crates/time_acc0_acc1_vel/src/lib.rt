@@ -80,7 +80,6 @@ fn uddu_times(
     times_of(t0, t1, t2, t3, t4, t5, t6)
 }
 
-#[tactic(auto, unfolding(crate::specs::TimeAcc0Acc1Vel::acc0_acc1_vel_uddu, crate::specs::TimeAcc0Acc1Vel::acc0_acc1_vel_uddu_applies))]
 pub fn uddu(s: PositionThirdOrderStep2, l: Limits) -> Trial
     ensures { result ≡ acc0_acc1_vel_uddu s l }
 {
@@ -142,7 +141,6 @@ fn udud_times(s: PositionThirdOrderStep2, a_max: f64, j_max: f64, t1: f64, t3: f
     times_of(t0, t1, t2, t3, t4, t5, t6)
 }
 
-#[tactic(auto, unfolding(crate::specs::TimeAcc0Acc1Vel::acc0_acc1_vel_udud, crate::specs::TimeAcc0Acc1Vel::acc0_acc1_vel_udud_applies))]
 pub fn udud(s: PositionThirdOrderStep2, l: Limits) -> Trial
     ensures { result ≡ acc0_acc1_vel_udud s l }
 {

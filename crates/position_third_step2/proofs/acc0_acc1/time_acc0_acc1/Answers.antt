@@ -4,4 +4,4 @@ use Rattle.position_third_step2.proofs.acc0_acc1.time_acc0_acc1.Goals as goal
 
 pub returns : goal.returns
 returns c =
-    last _ _ c.attempt-attempt.ensures c.tried.ensures
+    last _ _ c.attempt.ensures c.tried.ensures

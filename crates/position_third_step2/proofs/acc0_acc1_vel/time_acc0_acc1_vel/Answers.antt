@@ -4,9 +4,9 @@ use Rattle.position_third_step2.proofs.acc0_acc1_vel.time_acc0_acc1_vel.Goals as
 
 pub returns-then-r : goal.returns-then-r
 returns-then-r c =
-    yes! _ _ _ c.uddu-uddu.ensures c.tried-r.ensures c.if-r.true
+    yes! _ _ _ c.uddu.ensures c.tried-r.ensures c.if-r.true
 
 pub returns : goal.returns
 returns c =
-    no! _ _ _ c.uddu-uddu.ensures c.tried-r.ensures c.if-r.false
-    (last _ _ c.udud-udud.ensures c.tried.ensures)
+    no! _ _ _ c.uddu.ensures c.tried-r.ensures c.if-r.false
+    (last _ _ c.udud.ensures c.tried.ensures)

@@ -1,5 +1,0 @@
--- `time_acc1_vel` by value is `asked_of Acc1Vel`. Assumes nothing.
-use Rattle.position_third_step2.proofs.time_acc1_vel.Goals as goal
-
-pub returns : goal.returns
-returns c = c.asked.ensures
