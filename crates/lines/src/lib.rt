@@ -25,10 +25,7 @@ pub fn answered(request: &[u8], reply: &mut [u8]) -> Result<usize, Refusal>
     if !decode(request, &mut frame) {
         return Err(Refusal::Digits);
     }
-    let row = row_of(frame[0]);
-    if row.bytes == 0 {
-        return Err(Refusal::Kind);
-    }
+    let row = row_of(frame[0]).ok_or(Refusal::Kind)?;
     if n / 2 != row.bytes {
         return Err(Refusal::Bytes);
     }
