@@ -151,9 +151,12 @@ module _ (line lent : List ℕ) where
           unfolding answer_of frame_answer_of replied_of
           answer_is =
               ea
-              ∙ rw
-              (frame_is, known, ← (sound (at 0) known).0,
-              past asked (questions_of r.asks at ++ (ask 8 (leb r.places (length lent)) ∷ [])) passed)
+              ∙ rw (
+                frame_is,
+                known,
+                ← (sound (at 0) known).0,
+                past asked (questions_of r.asks at ++ (ask 8 (leb r.places (length lent)) ∷ [])) passed,
+              )
 
           pub later : (n ≡ 0 → ⊥) → record { number = n; filled = 0; places = reply } ≡ outcome_of line lent
           unfolding outcome_of

@@ -58,17 +58,14 @@ fn send_causes(output: &mut impl Write, c: Checked) -> io::Result<()> {
 
 fn send_quartics(output: &mut impl Write, shape: Shape, x: Move) -> io::Result<()> {
     let q = quartics_of(shape, x.solver(), x.limits());
-    let uddu = q.uddu;
-    let udud = q.udud;
     let mut reply = [0u8; QUARTICS];
-    write_quartics(&mut reply, uddu, udud);
+    write_quartics(&mut reply, q.uddu, q.udud);
     output.write_all(&reply)
 }
 
 fn checked(frame: &[u8; FRAME], x: CheckNumbers) -> Checked {
     let mut q = Profile::default().set_boundary(x.p0, x.v0, x.a0, x.pf, x.vf, x.af);
-    let t = x.t;
-    q.t = t;
+    q.t = x.t;
     q.check(
         signs(frame[1]),
         label(frame[2]),

@@ -92,8 +92,7 @@ fn lent(
 // A default record with the times of a line.
 fn timed(x: CheckNumbers) -> Profile {
     let mut q = Profile::default();
-    let t = x.t;
-    q.t = t;
+    q.t = x.t;
     q
 }
 
