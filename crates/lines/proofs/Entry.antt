@@ -9,11 +9,15 @@ use lib.Dec.{eqb, leb}
 use lib.ListN.{length, get_or, drop, replicate, length-replicate}
 use lib.Seq.{get_or-drop}
 use borrow.Author.Tests.{eq-eqb, ne_eqb, le-ltb, eqb-true, leb-true}
-use Rattle.std.specs.Prelude.{Option, Some, None}
+use Rattle.std.specs.Prelude.{Option, Some, None, Result, Ok, Err}
+use Rattle.std.specs.Result.{result_and}
 use Rattle.hex_bytes.proofs.Digits.{and_left, and_right}
 use Rattle.hex_bytes.specs.Hex.{Filled, all_digits_of, bytes_of, fill, decode_of}
 use Rattle.line_kinds.specs.declared.Row.{Row}
 use Rattle.line_kinds.specs.Kinds.{frame_most, line_most, row_of}
+use Rattle.line_kinds.specs.declared.refusals.Refusal.{Refusal}
+use Rattle.line_kinds.specs.Refusals.{number_of}
+use Rattle.line_kinds.proofs.Numbers.{not_0}
 use Rattle.line_kinds.proofs.Rows.{sound}
 use Rattle.line_frame.specs.Frame.{Frame, byte_at}
 use Rattle.line_questions.specs.Questions.{Question, ask, length_fits_of, bytes_fit}
@@ -21,7 +25,7 @@ use Rattle.line_questions.specs.Questions.{line_questions_of, questions_of}
 use Rattle.line_questions.specs.Questions.{AllYes}
 use Rattle.line_questions.proofs.Asked.{past}
 use Rattle.line_answers.specs.FrameAnswer.{replied_of, frame_answer_of}
-use Rattle.lines.specs.Answer.{answer_of, outcome_of}
+use Rattle.lines.specs.Answer.{answer_of, filled_of, outcome_of}
 use Rattle.line_answers.proofs.Replies.{refused}
 
 -- ---- a frame in its array, zeros after it
@@ -158,10 +162,17 @@ module _ (line lent : List ℕ) where
                 past asked (questions_of r.asks at ++ (ask 8 (leb r.places (length lent)) ∷ [])) passed,
               )
 
-          pub later : (n ≡ 0 → ⊥) → record { number = n; filled = 0; places = reply } ≡ outcome_of line lent
+          later : (n ≡ 0 → ⊥) → record { number = n; filled = 0; places = reply } ≡ outcome_of line lent
           unfolding outcome_of
           later z = rw (← answer_is, ne_eqb n 0 z)
 
-          pub all : n ≡ 0 → record { number = 0; filled = r.places; places = reply } ≡ outcome_of line lent
+          all : n ≡ 0 → record { number = 0; filled = r.places; places = reply } ≡ outcome_of line lent
           unfolding outcome_of
           all z = rw (← answer_is, z, known)
+
+        pub ends : length line / 2 ≡ r.bytes → {reply : List ℕ} (a : Result (Unit {0}) Refusal)
+            → record { number = number_of a; places = reply } ≡ frame_answer_of r.asks (byte_at bytes) lent
+            → let end : Result ℕ Refusal = result_and a (Ok r.places) in
+            record { number = number_of end; filled = filled_of end; places = reply } ≡ outcome_of line lent
+        ends h4 (Ok x) ea = all h4 ea refl
+        ends h4 (Err refusal) ea = later h4 ea (not_0 refusal)

@@ -1,8 +1,7 @@
 -- The line entry is `outcome_of`: one law for each way out (Entry.antt). Assumes nothing.
-use mathlib.Core.Path.{refl, sym, ◌∙◌}
-use Rattle.line_kinds.proofs.Numbers.{not_0}
-use Rattle.line_answers.proofs.Replies.{went_on, stopped, passed_on}
-use Rattle.lines.proofs.Entry.{first, second, third, fourth, later, all}
+use mathlib.Core.Path.{sym, ◌∙◌}
+use Rattle.line_answers.proofs.Replies.{went_on, stopped}
+use Rattle.lines.proofs.Entry.{first, second, third, fourth, ends}
 use Rattle.lines.proofs.answered.Goals as goal
 
 pub returns-then-not-length_fits : goal.returns-then-not-length_fits
@@ -28,15 +27,10 @@ returns-then-n-row c =
     (sym c.length_fits.ensures ∙ c.if-not-length_fits.false) c.decode.ensures c.if-not-decode.false
     (went_on c.ok_or.ensures.ok_part c.in_ok-row.was ∙ c.row_of.ensures) c.if-n-row.true
 
-pub returns-in_err-reply_to : goal.returns-in_err-reply_to
-returns-in_err-reply_to c =
-    rw (passed_on c.from_residual-in_err-reply_to.result c.from_residual-in_err-reply_to.ensures)
-    (later c.args.request.now c.args.reply.now
-    (sym c.length_fits.ensures ∙ c.if-not-length_fits.false) c.decode.ensures c.if-not-decode.false
-    (went_on c.ok_or.ensures.ok_part c.in_ok-row.was ∙ c.row_of.ensures) c.if-n-row.false (rw c.in_err-reply_to.was at c.reply_to.ensures) (not_0 _))
-
 pub returns : goal.returns
 returns c =
-    all c.args.request.now c.args.reply.now
+    rw c.and.ensures
+    (ends c.args.request.now c.args.reply.now
     (sym c.length_fits.ensures ∙ c.if-not-length_fits.false) c.decode.ensures c.if-not-decode.false
-    (went_on c.ok_or.ensures.ok_part c.in_ok-row.was ∙ c.row_of.ensures) c.if-n-row.false (rw c.in_ok-reply_to.was at c.reply_to.ensures) refl
+    (went_on c.ok_or.ensures.ok_part c.in_ok-row.was ∙ c.row_of.ensures) c.if-n-row.false c.reply_to.result
+    c.reply_to.ensures)
