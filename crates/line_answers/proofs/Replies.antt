@@ -39,8 +39,3 @@ pub stopped : {X T : Type 0} {o : Option X} {e f : Refusal} {r : Result X Refusa
     → r ≡ ok_or o e → r ≡ Err f → IsErr s × IsErrAnd s (λ g. g ≡ f) → (None ≡ o) × (s ≡ Err e)
 stopped (Ok x) k h l = absurd l.1
 stopped (Err g) k h l = let u = unmade _ (sym h ∙ k) in (u.0, rw (l.1 ∙ u.1))
-
--- where a `?` of a refusal stops
-pub passed_on : {T : Type 0} {f : Refusal} (s : Result T Refusal) → IsErr s × IsErrAnd s (λ g. g ≡ f) → s ≡ Err f
-passed_on (Ok x) l = absurd l.1
-passed_on (Err g) l = rw l.1

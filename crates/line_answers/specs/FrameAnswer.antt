@@ -1,9 +1,9 @@
 -- What a frame of the length of its kind is answered: a number, and what the lent places then hold. Definitions only.
-use Rattle.std.specs.Prelude.{cond, List, [], ◌∷◌, ◌++◌, ℕ, eqb, leb, length}
+use Rattle.std.specs.Prelude.{cond, List, [], ◌∷◌, ◌++◌, ℕ, eqb, leb, length, Option, Some, None}
 use Rattle.hex_bytes.specs.Hex.{hex_of, fill}
 use Rattle.step2_solver.specs.declared.Shape.{Shape}
 use Rattle.line_kinds.specs.declared.Asks.{Asks}
-use Rattle.line_kinds.specs.declared.Asks.TheVariants.{NoKind, OfCheck, OfShape, OfQuartics, OfCauses}
+use Rattle.line_kinds.specs.declared.Asks.TheVariants.{OfCheck, OfShape, OfQuartics, OfCauses}
 use Rattle.line_kinds.specs.Kinds.{places_of}
 use Rattle.line_frame.specs.Frame.{Frame}
 use Rattle.line_questions.specs.Questions.{Question, ask, first_no, questions_of}
@@ -20,11 +20,15 @@ pub record Answer : Type 0 where
 
 -- the reply's bytes, by what the frame asks
 unfoldable pub reply_of : Asks → Frame → List ℕ
-reply_of NoKind at = []
 reply_of OfCheck at = reply_bytes_of (check_line_of at)
 reply_of (OfShape shape) at = reply_bytes_of (shape_line_of shape at)
 reply_of (OfQuartics shape) at = quartic_line_of shape at
 reply_of (OfCauses shape) at = causes_bytes_of (shape_line_of shape at)
+
+-- none where nothing is asked
+abbrev pub reply_in : Option Asks → Frame → List ℕ
+reply_in None at = []
+reply_in (Some asks) at = reply_of asks at
 
 -- a line asks a shape with count and cause or without
 abbrev pub of_shape : Wanted → Shape → Asks

@@ -24,8 +24,7 @@ fn check_reply(x: CheckNumbers, frame: &[u8; FRAME], reply: &mut [u8]) -> bool
         ≡ written_of record_places (reply_bytes_of (checked_of x (byte_at frame.now))) reply.old }
 {
     let mut row = start(x.p0, x.v0, x.a0, x.pf, x.vf, x.af);
-    let t = x.t;
-    set_times(&mut row, t);
+    set_times(&mut row, x.t);
     let answer = check(
         &mut row,
         start_labels(),

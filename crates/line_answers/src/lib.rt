@@ -19,7 +19,6 @@ pub fn reply_to(asks: Asks, frame: &[u8; FRAME], reply: &mut [u8]) -> Result<(),
         ≡ frame_answer_of asks (byte_at frame.now) reply.old }
 {
     match asks {
-        Asks::NoKind => Ok(()),
         Asks::OfCheck => check_line(frame, reply),
         Asks::OfShape(shape) => shape_line(Wanted::Record, shape, frame, reply),
         Asks::OfQuartics(shape) => quartics_line(shape, frame, reply),

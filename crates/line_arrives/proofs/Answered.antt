@@ -8,6 +8,7 @@ use lib.Dec.{T, eqb, lit≤}
 use lib.ListN.{length, drop}
 use lib.Ieee.{binary64}
 use lib.Ieee.Bits.{of_bits-fits}
+use Rattle.std.specs.Prelude.{Option}
 use Rattle.rounding.specs.Value.{Number}
 use Rattle.roots.specs.declared.RootAnswer.TheVariants.{CubeRoot, Resolved}
 use Rattle.roots.specs.Fits.{AnswerFits}
@@ -21,15 +22,15 @@ use Rattle.line_kinds.specs.declared.Asks.TheVariants.{OfShape, OfCauses}
 use Rattle.line_frame.specs.Frame.{Frame, byte_at, word_at, number_at}
 use Rattle.line_frame.specs.Numbers.{move_of, move_finite, root_answer_of, first_answer_of, second_answer_of}
 use Rattle.line_frame.proofs.Numbers.{each_finite}
-use Rattle.line_questions.specs.Questions.{Question, ask, places_fit, shape_questions, questions_of, AllYes}
+use Rattle.line_questions.specs.Questions.{shape_questions, questions_of, AllYes}
 use Rattle.labels.specs.Causes.{cause_number_of}
 use Rattle.line_reply.specs.Reply.{reply_bytes_of, causes_bytes_of}
 use Rattle.line_answers.specs.ShapeLine.{shape_line_of}
-use Rattle.line_answers.specs.FrameAnswer.{reply_of, replied_of}
+use Rattle.line_answers.specs.FrameAnswer.{reply_of, reply_in, replied_of}
 use Rattle.lines.specs.Answer.{answer_of}
 use Rattle.line_places.specs.Exactly.{row_for, reply_to_of}
 use Rattle.line_places.proofs.Replies.{reply_of_bytes}
-use Rattle.line_places.proofs.Places.{frame_yes}
+use Rattle.line_places.proofs.Places.{asked_yes}
 use Rattle.line_arrives.specs.LineArrives.{AsksShape, move_in}
 use Rattle.line_arrives.proofs.Characters.{bytes_first}
 
@@ -85,20 +86,17 @@ module _ (line lent : List ℕ) (zero : (answer_of line lent).number ≡ 0) (k :
   at = byte_at (bytes_of line)
 
   -- every question that a shape is asked was answered yes
-  asked_yes : AllYes (shape_questions k.shape at ++ (ask 8 (places_fit (row_for line) (length lent)) ∷ []))
+  shape_yes : AllYes (shape_questions k.shape at)
   unfolding questions_of
-  asked_yes =
-      subst (λ (qs : List Question). AllYes (qs ++ (ask 8 (places_fit (row_for line) (length lent)) ∷ [])))
-      (ap (λ (asks : Asks). questions_of asks at) k.asked ∙ either k.causes)
-      (frame_yes line lent zero)
+  shape_yes = either k.causes (asked_yes line lent zero k.asked)
     where
-      either : (b : Bool) → questions_of (cond b (OfCauses k.shape) (OfShape k.shape)) at
-          ≡ shape_questions k.shape at
-      either true = refl
-      either false = refl
+      either : (b : Bool) → AllYes (questions_of (cond b (OfCauses k.shape) (OfShape k.shape)) at)
+          → AllYes (shape_questions k.shape at)
+      either true y = y
+      either false y = y
 
   pub numbers_are : MoveNumbers (move_in line)
-  numbers_are = twelve at asked_yes.1.0
+  numbers_are = twelve at shape_yes.1.0
 
   -- count and cause, where the reply has them, and the places after the reply
   abbrev left : Checked
@@ -128,5 +126,5 @@ module _ (line lent : List ℕ) (zero : (answer_of line lent).number ≡ 0) (k :
   pub bytes_are : bytes_of (answer_of line lent).places ≡ reply_bytes_of left ++ rest
   bytes_are =
       ap (λ (r : List ℕ). bytes_of r) places_are
-      ∙ ap (λ (asks : Asks). bytes_of (hex_of (reply_of asks at) ++ beyond)) k.asked
+      ∙ ap (λ (asks : Option Asks). bytes_of (hex_of (reply_in asks at) ++ beyond)) k.asked
       ∙ reply-first k.causes beyond

@@ -2,7 +2,7 @@
 -- which numbers they hold, the exact motion by these, and what it is to arrive.
 -- The motion and the distances are those of crates/rounding/specs/Motion.antt and
 -- crates/profile_arrives/specs/Arrives.antt, in whole numbers.
-use Rattle.std.specs.Prelude.{◌≡◌, Bool, false, cond, List, ℕ, suc, ◌+◌, ◌*◌, ◌^◌, ◌≤◌, ◌<◌, Float}
+use Rattle.std.specs.Prelude.{◌≡◌, Bool, false, cond, List, ℕ, suc, ◌+◌, ◌*◌, ◌^◌, ◌≤◌, ◌<◌, Float, Some}
 use Rattle.rounding.specs.Exact.{D, Size, Below, signed}
 use Rattle.rounding.specs.Value.{unit, val, Finite}
 use Rattle.rounding.specs.Motion.{Moving, per_a, per_v, per_p, state, motion, lasts}
@@ -14,7 +14,7 @@ use Rattle.step2_arrives.specs.Moves.{MoveNumbers, Close, in_time}
 use Rattle.step2_times.specs.Facts.{roundings, residual}
 use Rattle.hex_bytes.specs.Hex.{bytes_of}
 use Rattle.line_kinds.specs.declared.Asks.TheVariants.{OfShape, OfCauses}
-use Rattle.line_kinds.specs.Kinds.{row_of}
+use Rattle.line_kinds.specs.Kinds.{row_of, asks_of}
 use Rattle.line_frame.specs.Frame.{byte_at, number_at}
 use Rattle.line_frame.specs.Numbers.{move_of}
 
@@ -30,7 +30,7 @@ number_in characters i = number_at (byte_at (bytes_of characters)) i
 pub record AsksShape (line : List ℕ) : Type 0 where
   pub shape : Shape
   pub causes : Bool
-  pub asked : (row_of (byte_in line 0)).asks ≡ cond causes (OfCauses shape) (OfShape shape)
+  pub asked : asks_of (row_of (byte_in line 0)) ≡ Some (cond causes (OfCauses shape) (OfShape shape))
 
 abbrev pub move_in : List ℕ → Move
 move_in line = move_of (byte_at (bytes_of line))

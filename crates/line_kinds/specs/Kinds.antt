@@ -1,10 +1,10 @@
 -- Definitions only. The kinds of line, one row each: the bytes of the frame, the places of the reply,
 -- and what the line asks.
-use Rattle.std.specs.Prelude.{Bool, true, false, cond, List, [], ◌∷◌, ℕ, ◌*◌, eqb}
+use Rattle.std.specs.Prelude.{Bool, true, false, cond, List, [], ◌∷◌, ℕ, ◌*◌, eqb, Option, Some, None}
 use Rattle.step2_solver.specs.declared.Shape.{Shape}
 use Rattle.step2_solver.specs.declared.Shape.TheVariants.{Acc0Acc1Vel, Acc1Vel, Acc0Vel, Acc0Acc1, Acc0, RestToRest}
 use Rattle.line_kinds.specs.declared.Asks.{Asks}
-use Rattle.line_kinds.specs.declared.Asks.TheVariants.{NoKind, OfCheck, OfShape, OfQuartics, OfCauses}
+use Rattle.line_kinds.specs.declared.Asks.TheVariants.{OfCheck, OfShape, OfQuartics, OfCauses}
 use Rattle.line_kinds.specs.declared.Row.{Row}
 
 -- ---- sizes
@@ -34,7 +34,6 @@ abbrev pub spread : ℕ
 spread = 4
 
 abbrev pub places_of : Asks → ℕ
-places_of NoKind = 0
 places_of OfCheck = record_places
 places_of (OfShape shape) = record_places
 places_of (OfQuartics shape) = quartics_places
@@ -75,10 +74,19 @@ kinds =
     ∷ kind 0x15 97 (OfCauses Acc0)
     ∷ []
 
--- the row of the number n; a frame of no bytes, which asks nothing, where there is no such kind
-abbrev pub row_in : List Kind → ℕ → Row
-row_in [] n = record { bytes = 0; places = 0; asks = NoKind }
-row_in (k ∷ ks) n = cond (eqb n k.number) k.row (row_in ks n)
+-- the row of the number n; none where there is no such kind
+abbrev pub row_in : List Kind → ℕ → Option Row
+row_in [] n = None
+row_in (k ∷ ks) n = cond (eqb n k.number) (Some k.row) (row_in ks n)
 
-unfoldable pub row_of : ℕ → Row
+unfoldable pub row_of : ℕ → Option Row
 row_of n = row_in kinds n
+
+-- what a line asks, and the places of its reply, by the row of its kind; no kind asks nothing and has no place
+abbrev pub asks_of : Option Row → Option Asks
+asks_of None = None
+asks_of (Some row) = Some row.asks
+
+abbrev pub places_in : Option Row → ℕ
+places_in None = 0
+places_in (Some row) = row.places

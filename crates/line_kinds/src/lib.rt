@@ -28,7 +28,6 @@ pub const SPREAD: usize = 4;
 // What a line asks.
 #[derive(Clone, Copy)]
 pub enum Asks {
-    NoKind,
     OfCheck,
     OfShape(Shape),
     OfQuartics(Shape),
@@ -62,26 +61,26 @@ pub fn takes_roots(shape: Shape) -> bool
     matches!(shape, Shape::Acc1Vel | Shape::Acc0Vel)
 }
 
-// The row of a kind.
+// The row of a kind, where there is such a kind.
 #[tactic(auto, unfolding(crate::specs::Kinds::row_of))]
-pub fn row_of(kind: u8) -> Row
+pub fn row_of(kind: u8) -> Option<Row>
     ensures { result ≡ row_of kind }
 {
     match kind {
-        0x00 => Row::new(148, RECORD, Asks::OfCheck),
-        0x01 => Row::new(97, RECORD, Asks::OfShape(Shape::Acc0Acc1Vel)),
-        0x02 => Row::new(147, RECORD, Asks::OfShape(Shape::Acc1Vel)),
-        0x03 => Row::new(147, RECORD, Asks::OfShape(Shape::Acc0Vel)),
-        0x04 => Row::new(97, RECORD, Asks::OfShape(Shape::Acc0Acc1)),
-        0x05 => Row::new(97, RECORD, Asks::OfShape(Shape::Acc0)),
-        0x06 => Row::new(97, QUARTICS, Asks::OfQuartics(Shape::Acc1Vel)),
-        0x07 => Row::new(97, QUARTICS, Asks::OfQuartics(Shape::Acc0Vel)),
-        0x08 => Row::new(97, RECORD, Asks::OfShape(Shape::RestToRest)),
-        0x11 => Row::new(97, CAUSES, Asks::OfCauses(Shape::Acc0Acc1Vel)),
-        0x12 => Row::new(147, CAUSES, Asks::OfCauses(Shape::Acc1Vel)),
-        0x13 => Row::new(147, CAUSES, Asks::OfCauses(Shape::Acc0Vel)),
-        0x14 => Row::new(97, CAUSES, Asks::OfCauses(Shape::Acc0Acc1)),
-        0x15 => Row::new(97, CAUSES, Asks::OfCauses(Shape::Acc0)),
-        _ => Row::new(0, 0, Asks::NoKind),
+        0x00 => Some(Row::new(148, RECORD, Asks::OfCheck)),
+        0x01 => Some(Row::new(97, RECORD, Asks::OfShape(Shape::Acc0Acc1Vel))),
+        0x02 => Some(Row::new(147, RECORD, Asks::OfShape(Shape::Acc1Vel))),
+        0x03 => Some(Row::new(147, RECORD, Asks::OfShape(Shape::Acc0Vel))),
+        0x04 => Some(Row::new(97, RECORD, Asks::OfShape(Shape::Acc0Acc1))),
+        0x05 => Some(Row::new(97, RECORD, Asks::OfShape(Shape::Acc0))),
+        0x06 => Some(Row::new(97, QUARTICS, Asks::OfQuartics(Shape::Acc1Vel))),
+        0x07 => Some(Row::new(97, QUARTICS, Asks::OfQuartics(Shape::Acc0Vel))),
+        0x08 => Some(Row::new(97, RECORD, Asks::OfShape(Shape::RestToRest))),
+        0x11 => Some(Row::new(97, CAUSES, Asks::OfCauses(Shape::Acc0Acc1Vel))),
+        0x12 => Some(Row::new(147, CAUSES, Asks::OfCauses(Shape::Acc1Vel))),
+        0x13 => Some(Row::new(147, CAUSES, Asks::OfCauses(Shape::Acc0Vel))),
+        0x14 => Some(Row::new(97, CAUSES, Asks::OfCauses(Shape::Acc0Acc1))),
+        0x15 => Some(Row::new(97, CAUSES, Asks::OfCauses(Shape::Acc0))),
+        _ => None,
     }
 }

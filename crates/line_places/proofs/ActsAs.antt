@@ -9,6 +9,7 @@ use native.Mathlib.Omega.{arith}
 use lib.Dec.{eqb, leb}
 use lib.ListN.{length}
 use borrow.Author.Tests.{le-leb, leb-true}
+use Rattle.std.specs.Prelude.{Some}
 use Rattle.hex_bytes.specs.Hex.{is_digit_of, value_of, bytes_of, hex_of}
 use Rattle.hex_bytes.proofs.Laws.{hex_append}
 use Rattle.labels.specs.Causes.{cause_number_of}
@@ -23,7 +24,7 @@ use Rattle.line_kinds.specs.Kinds.{record_places, causes_places, places_of, row_
 use Rattle.line_frame.specs.Frame.{Frame, byte_at, word_at}
 use Rattle.line_frame.specs.Numbers.{move_of, root_answer_of}
 use Rattle.line_questions.specs.Questions.{Question, ask, counts_fit_of, counts_suit_of, questions_of}
-use Rattle.line_questions.specs.Questions.{first_no, line_questions_of, questions}
+use Rattle.line_questions.specs.Questions.{first_no, bytes_fit, line_questions_of, questions}
 use Rattle.line_questions.proofs.Asked.{Numbered, harder_last}
 use Rattle.line_reply.specs.Reply.{reply_bytes_of, causes_bytes_of}
 use Rattle.line_answers.specs.ShapeLine.{shape_line_of}
@@ -61,14 +62,16 @@ module _ (shape : Shape) (a b d n : ℕ) (rest : List ℕ) where
   abbrev y : ℕ
   y = 16 * value_of b + value_of d
 
-  module _ (e : row_of x ≡ row_with n (OfCauses shape)) (f : row_of y ≡ row_with n (OfShape shape))
+  module _ (e : row_of x ≡ Some (row_with n (OfCauses shape))) (f : row_of y ≡ Some (row_with n (OfShape shape)))
       (h : is_digit_of a ≡ is_digit_of b) where
     abbrev at : Frame
     at = byte_at (y ∷ bytes_of rest)
 
     -- what both are asked before the places
     abbrev asked : List Question
-    asked = line_questions_of (b ∷ d ∷ rest) (row_with n (OfShape shape)) ++ questions_of (OfShape shape) at
+    asked =
+        line_questions_of (b ∷ d ∷ rest) (Some (row_with n (OfShape shape)))
+        ++ (ask 4 (bytes_fit (length (y ∷ bytes_of rest)) (row_with n (OfShape shape))) ∷ questions_of (OfShape shape) at)
 
     line-asked : (p : ℕ) → questions (a ∷ d ∷ rest) p ≡ asked ++ (ask 8 (leb causes_places p) ∷ [])
     line-asked p = rw (e, h, same-questions shape x y (bytes_of rest))

@@ -8,21 +8,24 @@ use native.Mathlib.Omega.{arith}
 use lib.Dec.{eqb, lit≤}
 use lib.ListN.{length, drop, length-append, length-drop}
 use borrow.Author.Tests.{ne_eqb, eqb-true, eqb-false, leb-true}
-use Rattle.hex_bytes.specs.Hex.{bytes_of}
+use Rattle.std.specs.Prelude.{Option, Some, None}
+use Rattle.hex_bytes.specs.Hex.{bytes_of, hex_of}
 use Rattle.hex_bytes.proofs.Laws.{length_hex}
 use Rattle.line_kinds.specs.declared.Asks.{Asks}
-use Rattle.line_kinds.specs.declared.Asks.TheVariants.{NoKind, OfCheck, OfShape, OfQuartics, OfCauses}
+use Rattle.line_kinds.specs.declared.Asks.TheVariants.{OfCheck, OfShape, OfQuartics, OfCauses}
+use Rattle.line_kinds.specs.declared.Row.{Row}
+use Rattle.line_kinds.specs.Kinds.{asks_of, places_in}
 use Rattle.line_kinds.proofs.Rows.{sound}
 use Rattle.line_frame.specs.Frame.{Frame, byte_at}
 use Rattle.step2_solver.specs.declared.Shape.{Shape}
 use Rattle.line_questions.specs.Questions.{Question, ask, places_fit, first_no, shape_questions, questions_of, AllYes}
 use Rattle.line_questions.specs.Questions.{line_questions_of, frame_questions, questions}
-use Rattle.line_questions.proofs.Asked.{Numbered, all_yes, all_rest}
-use Rattle.line_answers.specs.FrameAnswer.{reply_of, replied_of}
+use Rattle.line_questions.proofs.Asked.{Numbered, all_yes, all_first, all_rest}
+use Rattle.line_answers.specs.FrameAnswer.{reply_of, reply_in, replied_of}
 use Rattle.lines.specs.Answer.{answer_of}
-use Rattle.line_places.specs.Exactly.{row_for, reply_to_of, Untouched, FilledExactly}
+use Rattle.line_places.specs.Exactly.{row_for, places_for, reply_to_of, Untouched, FilledExactly}
 use Rattle.line_places.proofs.Bytes.{bytes_digits}
-use Rattle.line_places.proofs.Replies.{reply_of_length, reply_of_bytes}
+use Rattle.line_places.proofs.Replies.{reply_of_length, reply_in_bytes}
 
 -- ---- after a number
 pub after_a_number : (line lent : List ℕ) → ((answer_of line lent).number ≡ 0 → ⊥) → Untouched line lent
@@ -56,7 +59,6 @@ of_shape_lem shape at =
 
 pub of_asks : (asks : Asks) (at : Frame) → UpToEight (questions_of asks at)
 unfolding questions_of
-of_asks NoKind at = tt
 of_asks OfCheck at = ((λ e. omega arith, lit≤ tt), ((λ e. omega arith, lit≤ tt), tt))
 of_asks (OfShape shape) at = of_shape_lem shape at
 of_asks (OfQuartics shape) at = ((λ e. omega arith, lit≤ tt), tt)
@@ -66,14 +68,27 @@ module _ (line lent : List ℕ) where
   abbrev at : Frame
   at = byte_at (bytes_of line)
 
+  abbrev n : ℕ
+  n = length (bytes_of line)
+
   all_numbers : UpToEight (questions line (length lent))
-  all_numbers =
-      eight_numbers (line_questions_of line (row_for line)) (frame_questions at (row_for line) (length lent)) (
+  all_numbers = by (row_for line)
+    where
+      by : (row : Option Row) → UpToEight (line_questions_of line row ++ frame_questions n at row (length lent))
+      by None = ((λ e. omega arith, lit≤ tt), ((λ e. omega arith, lit≤ tt), ((λ e. omega arith, lit≤ tt), tt)))
+      by (Some row) = (
         (λ e. omega arith, lit≤ tt),
-        ((λ e. omega arith, lit≤ tt), ((λ e. omega arith, lit≤ tt), ((λ e. omega arith, lit≤ tt), tt))),
+        (
+          (λ e. omega arith, lit≤ tt),
+          (
+            (λ e. omega arith, lit≤ tt),
+            (
+              (λ e. omega arith, lit≤ tt),
+              eight_numbers (questions_of row.asks at) _ (of_asks row.asks at) ((λ e. omega arith, lit≤ tt), tt),
+            ),
+          ),
+        ),
       )
-      (eight_numbers (questions_of (row_for line).asks at) _ (of_asks (row_for line).asks at)
-      ((λ e. omega arith, lit≤ tt), tt))
 
   pub at_most_eight : (answer_of line lent).number ≤ 8
   unfolding answer_of replied_of
@@ -86,20 +101,34 @@ module _ (line lent : List ℕ) where
   every_yes said = all_yes (questions line (length lent)) (numbered (questions line (length lent)) all_numbers) said
 
   module _ (said : (answer_of line lent).number ≡ 0) where
-    pub frame_yes : AllYes (frame_questions at (row_for line) (length lent))
-    frame_yes =
-        all_rest (line_questions_of line (row_for line)) (frame_questions at (row_for line) (length lent))
-        (every_yes said)
+    pub frame_yes : AllYes (frame_questions n at (row_for line) (length lent))
+    frame_yes = (every_yes said).1.1.1
 
-    places-enough : (row_for line).places ≤ length lent
-    places-enough =
-        leb-true (row_for line).places (length lent)
-        (all_rest (questions_of (row_for line).asks at) (ask 8 (places_fit (row_for line) (length lent)) ∷ [])
-        frame_yes).0
+    -- what the kind asks
+    pub asked_yes : {asks : Asks} → asks_of (row_for line) ≡ Some asks → AllYes (questions_of asks at)
+    asked_yes {asks = asks} = by (row_for line) frame_yes
+      where
+        by : (row : Option Row) → AllYes (frame_questions n at row (length lent)) → asks_of row ≡ Some asks
+            → AllYes (questions_of asks at)
+        by None y e = cc
+        by (Some row) y e = let g : row.asks ≡ asks = cc in rw (← g) (all_first (questions_of row.asks at) _ y.1)
 
-    reply-exact : length (reply_to_of line) ≡ (row_for line).places
-    reply-exact =
-        length_hex (reply_of (row_for line).asks at) ∙ reply_of_length (row_for line).asks at ∙ sym (sound (at 0)).0
+    places-enough : places_for line ≤ length lent
+    places-enough = by (row_for line) frame_yes
+      where
+        by : (row : Option Row) → AllYes (frame_questions n at row (length lent)) → places_in row ≤ length lent
+        by None y = omega arith
+        by (Some row) y =
+            leb-true row.places (length lent)
+            (all_rest (questions_of row.asks at) (ask 8 (places_fit row (length lent)) ∷ []) y.1).0
+
+    reply-exact : length (reply_to_of line) ≡ places_for line
+    reply-exact = by (row_for line) refl
+      where
+        by : (row : Option Row) → row_for line ≡ row → length (hex_of (reply_in (asks_of row) at)) ≡ places_in row
+        by None e = refl
+        by (Some row) e =
+            length_hex (reply_of row.asks at) ∙ reply_of_length row.asks at ∙ sym (sound (at 0) e).0
 
     places_are : (answer_of line lent).places ≡ reply_to_of line ++ drop (length (reply_to_of line)) lent
     unfolding answer_of replied_of
@@ -108,12 +137,12 @@ module _ (line lent : List ℕ) where
 pub after_a_reply : (line lent : List ℕ) → (answer_of line lent).number ≡ 0 → FilledExactly line lent
 after_a_reply line lent said =
     let exact = reply-exact line lent said in
-    let asks = (row_for line).asks in
+    let asks = asks_of (row_for line) in
     record {
       enough = places-enough line lent said;
       exactly = exact;
       first = places_are line lent said ∙ ap (λ (n : ℕ). reply_to_of line ++ drop n lent) exact;
-      digits = bytes_digits (reply_of asks (byte_at (bytes_of line))) (reply_of_bytes asks (byte_at (bytes_of line)));
+      digits = bytes_digits (reply_in asks (byte_at (bytes_of line))) (reply_in_bytes asks (byte_at (bytes_of line)));
     }
 
 -- ---- after either
@@ -128,5 +157,5 @@ same-places line lent = by (eqb (answer_of line lent).number 0) refl
     by true e =
         let f = after_a_reply line lent (eqb-true (answer_of line lent).number 0 e) in
         ap (λ (l : List ℕ). length l) f.first
-        ∙ as_many (reply_to_of line) lent (row_for line).places f.exactly f.enough
+        ∙ as_many (reply_to_of line) lent (places_for line) f.exactly f.enough
     by false e = ap (λ (l : List ℕ). length l) (after_a_number line lent (eqb-false (answer_of line lent).number 0 e))

@@ -5,6 +5,7 @@ use Prim.Native.Nat.{ℕ, ◌+◌, ◌*◌}
 use lib.Dec.{lit≤}
 use lib.ListN.{length, length-append}
 use lib.Ieee.{Float}
+use Rattle.std.specs.Prelude.{Option, Some, None}
 use Rattle.profile.specs.declared.Checked.{Checked}
 use Rattle.profile.specs.Parts.{numbers_of}
 use Rattle.profile.specs.Boundary.{default_of, boundary_of}
@@ -13,7 +14,7 @@ use Rattle.step2_solver.specs.New.{solver_of, limits_of}
 use Rattle.position_third_step2.specs.Shape.{fresh}
 use Rattle.position_third_step2.proofs.Keeps.{Lengths, check_keeps, shape_keeps}
 use Rattle.line_kinds.specs.declared.Asks.{Asks}
-use Rattle.line_kinds.specs.declared.Asks.TheVariants.{NoKind, OfCheck, OfShape, OfQuartics, OfCauses}
+use Rattle.line_kinds.specs.declared.Asks.TheVariants.{OfCheck, OfShape, OfQuartics, OfCauses}
 use Rattle.line_kinds.specs.Kinds.{places_of}
 use Rattle.line_frame.specs.Frame.{Frame}
 use Rattle.line_frame.specs.Numbers.{check_numbers_of, move_of, first_answer_of, second_answer_of}
@@ -23,7 +24,7 @@ use Rattle.line_reply.proofs.Rows.{rows_length}
 use Rattle.line_answers.specs.CheckLine.{checked_of, check_line_of}
 use Rattle.line_answers.specs.ShapeLine.{shape_line_of}
 use Rattle.line_answers.specs.QuarticLine.{both_bytes, quartic_line_of}
-use Rattle.line_answers.specs.FrameAnswer.{reply_of}
+use Rattle.line_answers.specs.FrameAnswer.{reply_of, reply_in}
 use Rattle.line_places.proofs.Bytes.{Bytes, reply_bytes, causes_bytes, quartics_bytes}
 
 -- ---- a record: the one that a line starts from, and what `check` or a shape leaves of it
@@ -84,7 +85,6 @@ quartics_length shape at = refl
 -- ---- the reply, by what is asked
 pub reply_of_length : (asks : Asks) (at : Frame) → 2 * length (reply_of asks at) ≡ places_of asks
 unfolding reply_of
-reply_of_length NoKind at = refl
 reply_of_length OfCheck at = ap (λ (n : ℕ). 2 * n) (reply-length (check_line_of at) (check_lengths at))
 reply_of_length (OfShape shape) at =
     ap (λ (n : ℕ). 2 * n) (reply-length (shape_line_of shape at) (shape_lengths shape at))
@@ -94,8 +94,11 @@ reply_of_length (OfCauses shape) at =
 
 pub reply_of_bytes : (asks : Asks) (at : Frame) → Bytes (reply_of asks at)
 unfolding reply_of
-reply_of_bytes NoKind at = tt
 reply_of_bytes OfCheck at = reply_bytes (check_line_of at)
 reply_of_bytes (OfShape shape) at = reply_bytes (shape_line_of shape at)
 reply_of_bytes (OfQuartics shape) at = quartics_bytes shape at
 reply_of_bytes (OfCauses shape) at = causes_bytes (shape_line_of shape at) (shape_lengths shape at).byte_calls
+
+pub reply_in_bytes : (asks : Option Asks) (at : Frame) → Bytes (reply_in asks at)
+reply_in_bytes None at = tt
+reply_in_bytes (Some asks) at = reply_of_bytes asks at

@@ -1,14 +1,15 @@
 -- The questions to a line, in order, and which of them each kind is asked. Definitions only.
 -- A question that a kind has nothing to ask about is not asked.
 -- One that a later kind brings stands in that kind's list alone.
-use Rattle.std.specs.Prelude.{◌≡◌, Bool, true, cond, not, ◌&&◌, List, [], ◌∷◌, ◌++◌, ℕ, ◌%◌, eqb, leb, length}
+use Rattle.std.specs.Prelude.{◌≡◌, Bool, true, cond, ◌&&◌, List, [], ◌∷◌, ◌++◌, ℕ, ◌%◌, eqb, leb, length}
+use Rattle.std.specs.Prelude.{Option, Some, None, is_some}
 use Rattle.hex_bytes.specs.Hex.{all_digits_of, bytes_of}
 use Rattle.step2_solver.specs.declared.Shape.{Shape}
 use Rattle.step2_solver.specs.New.{solver_of, limits_of}
 use Rattle.step2_quartics.specs.declared.Quartics.{Quartics}
 use Rattle.step2_quartics.specs.Quartics.{the_quartics}
 use Rattle.line_kinds.specs.declared.Asks.{Asks}
-use Rattle.line_kinds.specs.declared.Asks.TheVariants.{NoKind, OfCheck, OfShape, OfQuartics, OfCauses}
+use Rattle.line_kinds.specs.declared.Asks.TheVariants.{OfCheck, OfShape, OfQuartics, OfCauses}
 use Rattle.line_kinds.specs.declared.Row.{Row}
 use Rattle.line_kinds.specs.Kinds.{takes_roots_of, line_most, row_of}
 use Rattle.line_frame.specs.Frame.{Frame, byte_at}
@@ -23,8 +24,8 @@ length_fits_of n = eqb (n % 2) 0 && leb 2 n && leb n line_most
 -- 2. All characters are digits: `all_digits_of`.
 
 -- 3. There is such a kind.
-abbrev pub is_kind : Row → Bool
-is_kind row = not (eqb row.bytes 0)
+abbrev pub is_kind : Option Row → Bool
+is_kind row = is_some row
 
 -- 4. The length, in bytes, is that of the kind.
 abbrev pub bytes_fit : ℕ → Row → Bool
@@ -79,26 +80,24 @@ shape_questions shape at =
 
 -- what each kind is asked of its frame, between the length and the places
 unfoldable pub questions_of : Asks → Frame → List Question
-questions_of NoKind at = []
 questions_of OfCheck at = ask 5 (choices_fit_of at) ∷ ask 6 (check_finite at) ∷ []
 questions_of (OfShape shape) at = shape_questions shape at
 questions_of (OfQuartics shape) at = ask 6 (move_finite at) ∷ []
 questions_of (OfCauses shape) at = shape_questions shape at
 
--- a line where p places are lent
-abbrev pub line_questions_of : List ℕ → Row → List Question
+-- any line
+abbrev pub line_questions_of : List ℕ → Option Row → List Question
 line_questions_of line row =
-    ask 1 (length_fits_of (length line))
-    ∷ ask 2 (all_digits_of line)
-    ∷ ask 3 (is_kind row)
-    ∷ ask 4 (bytes_fit (length (bytes_of line)) row)
-    ∷ []
+    ask 1 (length_fits_of (length line)) ∷ ask 2 (all_digits_of line) ∷ ask 3 (is_kind row) ∷ []
 
-abbrev pub frame_questions : Frame → Row → ℕ → List Question
-frame_questions at row p = questions_of row.asks at ++ (ask 8 (places_fit row p) ∷ [])
+-- a frame of n bytes where p places are lent; one of no kind is asked nothing more
+abbrev pub frame_questions : ℕ → Frame → Option Row → ℕ → List Question
+frame_questions n at None p = []
+frame_questions n at (Some row) p =
+    ask 4 (bytes_fit n row) ∷ (questions_of row.asks at ++ (ask 8 (places_fit row p) ∷ []))
 
 abbrev pub questions : List ℕ → ℕ → List Question
 questions line p =
     let at = byte_at (bytes_of line) in
     let row = row_of (at 0) in
-    line_questions_of line row ++ frame_questions at row p
+    line_questions_of line row ++ frame_questions (length (bytes_of line)) at row p

@@ -27,6 +27,7 @@ pub fn choices_fit(frame: &[u8; FRAME]) -> bool
 }
 
 // Question 5 of a shape: the counts of its root answers, where it has some.
+#[tactic(auto, unfolding(crate::specs::Questions::counts_fit_of))]
 pub fn counts_fit(shape: Shape, frame: &[u8; FRAME]) -> bool
     ensures { result ≡ counts_fit_of shape (byte_at frame.now) }
 {
@@ -53,15 +54,15 @@ fn need_of(p: [f64; 4]) -> Need
     quartic_need(p[0], p[1], p[2], p[3])
 }
 
+#[tactic(auto, unfolding(crate::specs::Suits::both_suit_of))]
 fn both_suit(q: Quartics, uddu_count: u8, udud_count: u8) -> bool
     ensures { result ≡ both_suit_of q uddu_count udud_count }
 {
-    let uddu = q.uddu;
-    let udud = q.udud;
-    count_suits(need_of(uddu), uddu_count) & count_suits(need_of(udud), udud_count)
+    count_suits(need_of(q.uddu), uddu_count) & count_suits(need_of(q.udud), udud_count)
 }
 
 // Question 7: each count suits its quartic. Both are tested, also where the Rust stops earlier.
+#[tactic(auto, unfolding(crate::specs::Questions::counts_suit_of))]
 pub fn counts_suit(shape: Shape, q: Quartics, frame: &[u8; FRAME]) -> bool
     ensures { result ≡ counts_suit_of shape q (byte_at frame.now) }
 {

@@ -9,15 +9,17 @@ use lib.Dec.{eqb, lit≤}
 use lib.ListN.{length, take, replicate, length-append, length-take}
 use lib.Seq.{take_at}
 use borrow.Author.Tests.{ne_eqb, eqb-true, le-leb}
+use Rattle.std.specs.Prelude.{Option, Some, None}
 use Rattle.hex_bytes.specs.Hex.{bytes_of}
 use Rattle.hex_bytes.proofs.Turns.{length_bytes}
-use Rattle.line_kinds.specs.Kinds.{reply_most, spread, row_of}
-use Rattle.line_kinds.proofs.Rows.{sound}
-use Rattle.line_questions.specs.Questions.{places_fit}
+use Rattle.line_kinds.specs.declared.Row.{Row}
+use Rattle.line_kinds.specs.Kinds.{reply_most, spread, places_in}
+use Rattle.line_kinds.proofs.Rows.{sound, places_most}
+use Rattle.line_questions.specs.Questions.{Question, AllYes, first_no, line_questions_of, frame_questions}
 use Rattle.line_answers.specs.FrameAnswer.{replied_of}
 use Rattle.lines.specs.Answer.{answer_of, Outcome, outcome_of}
-use Rattle.line_places.specs.Exactly.{kind_of, reply_to_of}
-use Rattle.line_places.proofs.Places.{every_yes}
+use Rattle.line_places.specs.Exactly.{kind_of, row_for, places_for, reply_to_of}
+use Rattle.line_places.proofs.Places.{frame_yes}
 use Rattle.line_stream.specs.Output.{answer_most, pair_of_digits, text_of, line_output}
 use Rattle.line_stream.proofs.Replies.{reply-first, reply-exact}
 
@@ -26,30 +28,33 @@ abbrev zeros : List ℕ
 zeros = replicate reply_most 0
 
 -- ---- the most places
-filled_within : (line lent : List ℕ) (n : ℕ) → ((answer_of line lent).number ≡ 0 → (row_of (kind_of line)).places ≤ n)
+filled_within : (line lent : List ℕ) (n : ℕ) → ((answer_of line lent).number ≡ 0 → places_for line ≤ n)
     → (outcome_of line lent).filled ≤ n
 unfolding outcome_of
 filled_within line lent n h = by (eqb (answer_of line lent).number 0) refl
   where
-    by : (b : Bool) → eqb (answer_of line lent).number 0 ≡ b → cond b (row_of (kind_of line)).places 0 ≤ n
+    by : (b : Bool) → eqb (answer_of line lent).number 0 ≡ b → cond b (places_for line) 0 ≤ n
     by true e = h (eqb-true (answer_of line lent).number 0 e)
     by false e = omega arith
 
 pub filled_most : (line lent : List ℕ) → (outcome_of line lent).filled ≤ reply_most
-filled_most line lent = filled_within line lent reply_most (λ e. (sound (kind_of line)).2)
+filled_most line lent = filled_within line lent reply_most (λ e. places_most (kind_of line))
 
 -- an accepted line has two characters for each byte of its kind
 filled-spread : (line lent : List ℕ) → (outcome_of line lent).filled ≤ spread * length line
 filled-spread line lent =
-    filled_within line lent (spread * length line)
-    (λ e.
-    by (row_of (kind_of line)).places (row_of (kind_of line)).bytes (length (bytes_of line)) (length line)
-    (sound (kind_of line)).3
-    (eqb-true (length (bytes_of line)) (row_of (kind_of line)).bytes (every_yes line lent e).1.1.1.0)
-    (length_bytes line))
+    filled_within line lent (spread * length line) (λ e. of_kind _ (row_for line) refl (frame_yes line lent e))
   where
     by : (places bytes n line : ℕ) → places ≤ spread * (2 * bytes) → n ≡ bytes → n ≡ line / 2 → places ≤ spread * line
     by places bytes n line h e l = omega arith
+
+    of_kind : (at : ℕ → ℕ) (row : Option Row) → row_for line ≡ row
+        → AllYes (frame_questions (length (bytes_of line)) at row (length lent))
+        → places_in row ≤ spread * length line
+    of_kind at None e y = omega arith
+    of_kind at (Some row) e y =
+        by row.places row.bytes (length (bytes_of line)) (length line) (sound (kind_of line) e).3
+        (eqb-true (length (bytes_of line)) row.bytes y.0) (length_bytes line)
 
 output_within : (line : List ℕ) (n : ℕ) → 2 ≤ n → (outcome_of line zeros).filled ≤ n
     → length (line_output line) ≤ n + 1
@@ -83,16 +88,22 @@ output_spread line =
 
 -- ---- the number, whatever is lent
 -- question 8 is answered yes
-enough : (n p : ℕ) → reply_most ≤ p → places_fit (row_of n) p ≡ true
-enough n p h = le-leb (row_of n).places p (within (row_of n).places (sound n).2)
+same_questions : (n : ℕ) (at : ℕ → ℕ) (row : Option Row) (p q : ℕ) → places_in row ≤ reply_most → reply_most ≤ p
+    → reply_most ≤ q → frame_questions n at row p ≡ frame_questions n at row q
+same_questions n at None p q l h k = refl
+same_questions n at (Some row) p q l h k =
+    rw (le-leb row.places p (within row.places p l h), le-leb row.places q (within row.places q l k))
   where
-    within : (r : ℕ) → r ≤ reply_most → r ≤ p
-    within r l = omega arith
+    within : (r p : ℕ) → r ≤ reply_most → reply_most ≤ p → r ≤ p
+    within r p l h = omega arith
 
 same_number : (line lent other : List ℕ) → reply_most ≤ length lent → reply_most ≤ length other
     → (answer_of line lent).number ≡ (answer_of line other).number
 unfolding answer_of replied_of
-same_number line lent other h k = rw (enough (kind_of line) (length lent) h, enough (kind_of line) (length other) k)
+same_number line lent other h k =
+    ap (λ (qs : List Question). first_no (line_questions_of line (row_for line) ++ qs))
+    (same_questions (length (bytes_of line)) _ (row_for line) (length lent) (length other)
+    (places_most (kind_of line)) h k)
 
 zeros_enough : reply_most ≤ length zeros
 zeros_enough = lit≤ tt

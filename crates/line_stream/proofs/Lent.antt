@@ -5,9 +5,9 @@ use Prim.Native.Nat.{ℕ, suc, ◌+◌, ◌≤◌}
 use native.Mathlib.Omega.{arith}
 use lib.ListN.{length, drop, set}
 use Rattle.hex_bytes.proofs.Lent.{from, back, from-length, back-same, back-reply}
-use Rattle.line_kinds.specs.Kinds.{reply_most, row_of}
+use Rattle.line_kinds.specs.Kinds.{reply_most}
 use Rattle.lines.specs.Answer.{answer_of, Outcome, outcome_of}
-use Rattle.line_places.specs.Exactly.{kind_of, reply_to_of}
+use Rattle.line_places.specs.Exactly.{places_for, reply_to_of}
 use Rattle.line_cut.specs.Cut.{Put}
 use Rattle.line_cut.proofs.Copies.{put_last}
 use Rattle.line_stream.specs.Output.{answer_most, pair_of_digits, line_output}
@@ -39,7 +39,7 @@ module _ (line out places : List ℕ) (at n m : ℕ) (h : at + answer_most ≤ l
   pub filled_few : m ≤ reply_most
   filled_few = rw (ap (λ (a : Outcome). a.filled) e) (filled_most line lent)
 
-  filled_is : (answer_of line lent).number ≡ 0 → m ≡ (row_of (kind_of line)).places
+  filled_is : (answer_of line lent).number ≡ 0 → m ≡ places_for line
   unfolding outcome_of
   filled_is z = ap (λ (a : Outcome). a.filled) e ∙ rw z
 

@@ -6,10 +6,9 @@ use Prim.Native.Nat.{ℕ}
 use lib.ListN.{length}
 use borrow.Author.Tests.{ne_eqb}
 use Rattle.hex_bytes.specs.Hex.{fill}
-use Rattle.line_kinds.specs.Kinds.{row_of}
 use Rattle.line_answers.specs.FrameAnswer.{replied_of}
 use Rattle.lines.specs.Answer.{answer_of}
-use Rattle.line_places.specs.Exactly.{kind_of, reply_to_of}
+use Rattle.line_places.specs.Exactly.{places_for, reply_to_of}
 use Rattle.line_places.proofs.Places.{after_a_reply}
 
 module _ (line lent : List ℕ) where
@@ -22,5 +21,5 @@ module _ (line lent : List ℕ) where
     unfolding answer_of replied_of
     reply-first = rw said
 
-    pub reply-exact : length (reply_to_of line) ≡ (row_of (kind_of line)).places
+    pub reply-exact : length (reply_to_of line) ≡ places_for line
     reply-exact = (after_a_reply line lent said).exactly

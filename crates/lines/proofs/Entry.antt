@@ -9,18 +9,23 @@ use lib.Dec.{eqb, leb}
 use lib.ListN.{length, get_or, drop, replicate, length-replicate}
 use lib.Seq.{get_or-drop}
 use borrow.Author.Tests.{eq-eqb, ne_eqb, le-ltb, eqb-true, leb-true}
+use Rattle.std.specs.Prelude.{Option, Some, None, Result, Ok, Err}
+use Rattle.std.specs.Result.{result_and}
 use Rattle.hex_bytes.proofs.Digits.{and_left, and_right}
 use Rattle.hex_bytes.specs.Hex.{Filled, all_digits_of, bytes_of, fill, decode_of}
 use Rattle.line_kinds.specs.declared.Row.{Row}
 use Rattle.line_kinds.specs.Kinds.{frame_most, line_most, row_of}
+use Rattle.line_kinds.specs.declared.refusals.Refusal.{Refusal}
+use Rattle.line_kinds.specs.Refusals.{number_of}
+use Rattle.line_kinds.proofs.Numbers.{not_0}
 use Rattle.line_kinds.proofs.Rows.{sound}
 use Rattle.line_frame.specs.Frame.{Frame, byte_at}
-use Rattle.line_questions.specs.Questions.{ask, length_fits_of, is_kind}
-use Rattle.line_questions.specs.Questions.{line_questions_of}
+use Rattle.line_questions.specs.Questions.{Question, ask, length_fits_of, bytes_fit}
+use Rattle.line_questions.specs.Questions.{line_questions_of, questions_of}
 use Rattle.line_questions.specs.Questions.{AllYes}
 use Rattle.line_questions.proofs.Asked.{past}
 use Rattle.line_answers.specs.FrameAnswer.{replied_of, frame_answer_of}
-use Rattle.lines.specs.Answer.{answer_of, outcome_of}
+use Rattle.lines.specs.Answer.{answer_of, filled_of, outcome_of}
 use Rattle.line_answers.proofs.Replies.{refused}
 
 -- ---- a frame in its array, zeros after it
@@ -64,7 +69,7 @@ module _ (line lent : List ℕ) where
   abbrev at : Frame
   at = byte_at (bytes_of line)
 
-  abbrev row : Row
+  abbrev row : Option Row
   row = row_of (at 0)
 
   -- after a number nothing is filled
@@ -106,54 +111,68 @@ module _ (line lent : List ℕ) where
     pub frame_is : byte_at bytes ≡ at
     frame_is = rw (ap (λ x. x.left) decoded) (frame_at (bytes_of line) frame_most)
 
-    module _ (h2 : ok ≡ true) {r : Row} (er : r ≡ row_of (byte_at bytes 0)) where
-      row_is : r ≡ row
-      row_is = er ∙ ap (λ (f : Frame). row_of (f 0)) frame_is
+    module _ (h2 : ok ≡ true) where
+      row_is : {o : Option Row} → o ≡ row_of (byte_at bytes 0) → row ≡ o
+      row_is e = sym (e ∙ ap (λ (f : Frame). row_of (f 0)) frame_is)
 
       digits : all_digits_of line ≡ true
       digits = sym (ap (λ x. x.ok) decoded) ∙ h2
 
-      pub third : r.bytes ≡ 0 → record { number = 3; filled = 0; places = lent } ≡ outcome_of line lent
+      pub third : None ≡ row_of (byte_at bytes 0)
+          → record { number = 3; filled = 0; places = lent } ≡ outcome_of line lent
       unfolding answer_of
-      third z =
+      third e =
           numbered 3
           (refused _ lent (ask 1 (length_fits_of (length line)) ∷ ask 2 (all_digits_of line) ∷ []) 3 _
-          (h1, (digits, tt))
-          (rw (← row_is, z)) (λ e. omega arith))
+          (h1, (digits, tt)) (rw (row_is e)) (λ e. omega arith))
           (λ e. omega arith)
 
-      module _ (h3 : r.bytes ≡ 0 → ⊥) where
-        kind_is : is_kind row ≡ true
-        kind_is = rw (← row_is, ne_eqb r.bytes 0 h3)
+      module _ {r : Row} (h3 : Some r ≡ row_of (byte_at bytes 0)) where
+        known : row ≡ Some r
+        known = row_is h3
+
+        -- the questions of any line, and the length
+        abbrev asked : List Question
+        asked = line_questions_of line (Some r) ++ (ask 4 (bytes_fit (length (bytes_of line)) r) ∷ [])
 
         pub fourth : (length line / 2 ≡ r.bytes → ⊥)
             → record { number = 4; filled = 0; places = lent } ≡ outcome_of line lent
         unfolding answer_of
         fourth d =
             numbered 4
-            (refused _ lent (ask 1 (length_fits_of (length line)) ∷ ask 2 (all_digits_of line) ∷ ask 3
-            (is_kind row) ∷ []) 4 _
-            (h1, (digits, (kind_is, tt)))
-            (rw (← row_is, ← half line, ne_eqb (length line / 2) r.bytes d)) (λ e. omega arith))
+            (rw known
+            (refused _ lent (line_questions_of line (Some r)) 4 _ (h1, (digits, (refl, tt)))
+            (rw (← half line, ne_eqb (length line / 2) r.bytes d)) (λ e. omega arith)))
             (λ e. omega arith)
 
         module _ (h4 : length line / 2 ≡ r.bytes) {n : ℕ} {reply : List ℕ}
             (ea : record { number = n; places = reply } ≡ frame_answer_of r.asks (byte_at bytes) lent) where
-          passed : AllYes (line_questions_of line row)
-          passed = (h1, (digits, (kind_is, (rw (← row_is, ← half line, eq-eqb (length line / 2) r.bytes h4), tt))))
+          passed : AllYes asked
+          passed = (h1, (digits, (refl, (rw (← half line, eq-eqb (length line / 2) r.bytes h4), tt))))
 
           -- the frame's answer is the line's
           answer_is : record { number = n; places = reply } ≡ answer_of line lent
           unfolding answer_of frame_answer_of replied_of
           answer_is =
               ea
-              ∙ rw
-              (row_is, frame_is, ← (sound (at 0)).0, past (line_questions_of line row) _ passed)
+              ∙ rw (
+                frame_is,
+                known,
+                ← (sound (at 0) known).0,
+                past asked (questions_of r.asks at ++ (ask 8 (leb r.places (length lent)) ∷ [])) passed,
+              )
 
-          pub later : (n ≡ 0 → ⊥) → record { number = n; filled = 0; places = reply } ≡ outcome_of line lent
+          later : (n ≡ 0 → ⊥) → record { number = n; filled = 0; places = reply } ≡ outcome_of line lent
           unfolding outcome_of
           later z = rw (← answer_is, ne_eqb n 0 z)
 
-          pub all : n ≡ 0 → record { number = 0; filled = r.places; places = reply } ≡ outcome_of line lent
+          all : n ≡ 0 → record { number = 0; filled = r.places; places = reply } ≡ outcome_of line lent
           unfolding outcome_of
-          all z = rw (← answer_is, z, row_is)
+          all z = rw (← answer_is, z, known)
+
+        pub ends : length line / 2 ≡ r.bytes → {reply : List ℕ} (a : Result (Unit {0}) Refusal)
+            → record { number = number_of a; places = reply } ≡ frame_answer_of r.asks (byte_at bytes) lent
+            → let end : Result ℕ Refusal = result_and a (Ok r.places) in
+            record { number = number_of end; filled = filled_of end; places = reply } ≡ outcome_of line lent
+        ends h4 (Ok x) ea = all h4 ea refl
+        ends h4 (Err refusal) ea = later h4 ea (not_0 refusal)

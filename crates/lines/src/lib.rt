@@ -25,15 +25,11 @@ pub fn answered(request: &[u8], reply: &mut [u8]) -> Result<usize, Refusal>
     if !decode(request, &mut frame) {
         return Err(Refusal::Digits);
     }
-    let row = row_of(frame[0]);
-    if row.bytes == 0 {
-        return Err(Refusal::Kind);
-    }
+    let row = row_of(frame[0]).ok_or(Refusal::Kind)?;
     if n / 2 != row.bytes {
         return Err(Refusal::Bytes);
     }
-    reply_to(row.asks, &frame, reply)?;
-    Ok(row.places)
+    reply_to(row.asks, &frame, reply).and(Ok(row.places))
 }
 
 // Document 01's number of an answer: 0 of a reply.

@@ -59,17 +59,14 @@ fn send_causes(output: &mut impl Write, c: Checked) -> io::Result<()> {
 
 fn send_quartics(output: &mut impl Write, shape: Shape, x: Move) -> io::Result<()> {
     let q = quartics_of(shape, x.solver(), x.limits());
-    let uddu = q.uddu;
-    let udud = q.udud;
     let mut reply = [0u8; QUARTICS];
-    write_quartics(&mut reply, uddu, udud);
+    write_quartics(&mut reply, q.uddu, q.udud);
     output.write_all(&reply)
 }
 
 fn checked(frame: &[u8; FRAME], x: CheckNumbers) -> Checked {
     let mut q = Profile::default().set_boundary(x.p0, x.v0, x.a0, x.pf, x.vf, x.af);
-    let t = x.t;
-    q.t = t;
+    q.t = x.t;
     q.check(
         ControlSigns::from(frame[1]),
         ReachedLimits::from(frame[2]),
@@ -102,22 +99,19 @@ fn tried(shape: Shape, frame: &[u8; FRAME]) -> Checked {
     }
 }
 
-// Whether `asks` is of a kind.
-fn send_reply(output: &mut impl Write, asks: Asks, frame: &[u8; FRAME]) -> io::Result<bool> {
+fn send_reply(output: &mut impl Write, asks: Asks, frame: &[u8; FRAME]) -> io::Result<()> {
     match asks {
-        Asks::NoKind => return Ok(false),
         Asks::OfCheck => {
             let x = check_numbers(frame).unwrap_or_default();
-            send_record(output, checked(frame, x))?
+            send_record(output, checked(frame, x))
         }
-        Asks::OfShape(shape) => send_record(output, tried(shape, frame))?,
+        Asks::OfShape(shape) => send_record(output, tried(shape, frame)),
         Asks::OfQuartics(shape) => {
             let x = move_numbers(frame).unwrap_or(ZEROS);
-            send_quartics(output, shape, x)?
+            send_quartics(output, shape, x)
         }
-        Asks::OfCauses(shape) => send_causes(output, tried(shape, frame))?,
+        Asks::OfCauses(shape) => send_causes(output, tried(shape, frame)),
     }
-    Ok(true)
 }
 
 // Fills `line`, takes the line feed after it, and puts its bytes into `bytes`.
@@ -149,7 +143,9 @@ fn answer_line(input: &mut impl Read, output: &mut impl Write) -> io::Result<boo
     }
     let mut frame = [0u8; FRAME];
     decode(&kind, &mut frame);
-    let row = row_of(frame[0]);
+    let Some(row) = row_of(frame[0]) else {
+        return Ok(false);
+    };
     let bytes = row.bytes;
     if bytes < 1 {
         return Ok(false);
@@ -160,10 +156,9 @@ fn answer_line(input: &mut impl Read, output: &mut impl Write) -> io::Result<boo
     if !read_rest(input, 2 * (bytes - 1), &mut frame[1..])? {
         return Ok(false);
     }
-    let asks = row.asks;
-    let answered = send_reply(output, asks, &frame)?;
+    send_reply(output, row.asks, &frame)?;
     output.write_all(b"\n")?;
-    Ok(answered)
+    Ok(true)
 }
 
 // The list is shorter than the count of turns, which is there so that the loop is seen to end.

@@ -108,8 +108,7 @@ fn lent(frame: &[u8; FRAME], x: CheckNumbers, marked: bool) -> [Checked; 2] {
 // A default record with the times of a line.
 fn timed(x: CheckNumbers) -> Profile {
     let mut q = Profile::default();
-    let t = x.t;
-    q.t = t;
+    q.t = x.t;
     q
 }
 

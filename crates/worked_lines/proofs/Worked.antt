@@ -8,6 +8,7 @@ use Prim.Native.Nat.{ℕ}
 use lib.Dec.{T}
 use lib.ListN.{replicate}
 use lib.Ieee.{is_nan, of_bits, to_bits, lt, le, eq, neg, add, sub, mul, div}
+use Rattle.std.specs.Prelude.{Some}
 use Rattle.float.specs.Helpers.{abs_of}
 use Rattle.util.specs.Integrate.{integrate_of}
 use Rattle.sqrt.specs.Sqrt.{square_root_of, sqrt_of}
@@ -66,7 +67,7 @@ use Rattle.time_acc0.specs.TimeAcc0.{acc0_third_h2, acc0_third_times, acc0_third
 use Rattle.step2_quartics.specs.Quartics.{acc1_vel_quartics_of, acc0_vel_quartics_of}
 use Rattle.step2_attempt.specs.Attempt.{attempt_of, try_of, tried_of}
 use Rattle.line_kinds.specs.declared.Asks.TheVariants.{OfShape}
-use Rattle.line_kinds.specs.Kinds.{reply_most, row_of}
+use Rattle.line_kinds.specs.Kinds.{reply_most, row_of, asks_of}
 use Rattle.line_frame.specs.Frame.{word_at}
 use Rattle.line_frame.specs.Numbers.{move_of, root_answer_of}
 use Rattle.line_questions.specs.Suits.{both_suit_of}
@@ -91,7 +92,7 @@ abbrev by_first : Attempt → List ℕ → Bool
 by_first attempt line = passes line (answer_for line) (trial_in attempt line 0)
 
 abbrev Met : Attempt → List ℕ → Type 0
-Met attempt line = ((row_of (byte_in line 0)).asks ≡ OfShape (shape_by attempt)) × T (by_first attempt line)
+Met attempt line = (asks_of (row_of (byte_in line 0)) ≡ Some (OfShape (shape_by attempt))) × T (by_first attempt line)
 
 worked : (attempt : Attempt) (line : List ℕ) → Met attempt line → Worked attempt line
 worked attempt line m =

@@ -1,6 +1,6 @@
 -- The attempts of the shapes by name, the Rust's eleven and kind 08's two, and which of them a reply is of. Definitions
 -- only.
-use Rattle.std.specs.Prelude.{◌≡◌, cond, List, [], ◌∷◌, ◌++◌, ℕ, T, get_or, take, drop}
+use Rattle.std.specs.Prelude.{◌≡◌, cond, List, [], ◌∷◌, ◌++◌, ℕ, T, get_or, take, drop, Some}
 use Rattle.labels.specs.Labels.{label_number_of, signs_number_of}
 use Rattle.roots.specs.declared.RootAnswer.{RootAnswer}
 use Rattle.step2_solver.specs.declared.PositionThirdOrderStep2.{PositionThirdOrderStep2}
@@ -22,7 +22,7 @@ use Rattle.step2_attempt.specs.Attempt.{seven_of}
 use Rattle.step2_over_roots.specs.OverRoots.{over_roots}
 use Rattle.hex_bytes.specs.Hex.{bytes_of}
 use Rattle.line_kinds.specs.declared.Asks.TheVariants.{OfShape}
-use Rattle.line_kinds.specs.Kinds.{row_of}
+use Rattle.line_kinds.specs.Kinds.{row_of, asks_of}
 use Rattle.line_frame.specs.Frame.{byte_at}
 use Rattle.line_frame.specs.Numbers.{first_answer_of, second_answer_of}
 use Rattle.line_questions.specs.Questions.{quartics_at}
@@ -101,7 +101,7 @@ times_bytes reply = take 56 (drop 4 (bytes_of reply))
 -- The line asks the shape that makes the attempt, and the reply is of trial i of the attempt: it has the label, the
 -- signs and the seven times of that trial. `no_trial_of`, which stands for none, is not made.
 pub record MadeBy (attempt : Attempt) (i : ℕ) (line reply : List ℕ) : Type 0 where
-  pub asked : (row_of (byte_in line 0)).asks ≡ OfShape (shape_by attempt)
+  pub asked : asks_of (row_of (byte_in line 0)) ≡ Some (OfShape (shape_by attempt))
   pub made : T (trial_in attempt line i).made
   pub label : byte_in reply 1 ≡ label_number_of (trial_in attempt line i).label
   pub signs : byte_in reply 3 ≡ signs_number_of (trial_in attempt line i).signs

@@ -1,8 +1,5 @@
 -- `end_line` stores the output of the line that `part` ends. Assumes nothing.
-use mathlib.Core.Path.{◌≡◌}
-use lib.ListN.{length}
-use borrow.Author.Rules.{rules}
-use Rattle.line_cut.proofs.Keeping.{keeps_fits, kept-part, whole_part}
+use Rattle.line_cut.proofs.Keeping.{kept-part, whole_part}
 use Rattle.line_stream.proofs.Ending.{put_same}
 use Rattle.line_stream.proofs.end_line.Goals as goal
 

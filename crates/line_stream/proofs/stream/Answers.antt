@@ -16,18 +16,6 @@ loop-out-init c =
     begins line_way tt c.args.input.now c.args.kept.now c.args.out.now c.args.count c.least-count.result (search rules)
     c.least-count.ensures
 
-pub overflow_sub-out : goal.overflow_sub-out
-overflow_sub-out c = c.loop-out.invariant.room
-
-pub slice_bounds-keep-count : goal.slice_bounds-keep-count
-slice_bounds-keep-count c = c.loop-out.invariant.within
-
-pub slice_bounds-keep-start : goal.slice_bounds-keep-start
-slice_bounds-keep-start c = c.loop-out.invariant.within
-
-pub shape_of-out-then-end-input : goal.shape_of-out-then-end-input
-shape_of-out-then-end-input c = c.loop-out.invariant.same
-
 pub returns-then-end-input : goal.returns-then-end-input
 returns-then-end-input c =
     let w : length c.keep-n.new.kept ≡ kept_most line_way = search rules in
@@ -85,9 +73,6 @@ loop-out-preserved c =
     c.end_line-filled.result
     w
     c.end_line-filled.ensures
-
-pub shape_of-out : goal.shape_of-out
-shape_of-out c = c.loop-out.invariant.same
 
 pub returns : goal.returns
 returns c = (out_of_room c.loop-out.invariant c.loop-out-test.false).0

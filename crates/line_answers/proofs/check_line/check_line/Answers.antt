@@ -4,7 +4,7 @@ use mathlib.Core.List.{List, [], ◌∷◌}
 use Prim.Native.Nat.{ℕ}
 use native.Mathlib.Omega.{arith}
 use lib.ListN.{length}
-use borrow.Author.Tests.{not-true, not-false, le-leb, lt-leb}
+use borrow.Author.Tests.{le-leb, lt-leb}
 use Rattle.line_kinds.specs.declared.Asks.TheVariants.{OfCheck}
 use Rattle.line_kinds.specs.Kinds.{record_places}
 use Rattle.line_frame.specs.declared.CheckNumbers.{CheckNumbers}
