@@ -33,7 +33,7 @@ const VEL: Tests = Tests {
 };
 
 // A row for each label, in the enum's order.
-const TESTS: [Tests; 8] = [
+static TESTS: [Tests; 8] = [
     VEL,
     VEL,
     Tests { t1: true, ..NONE },

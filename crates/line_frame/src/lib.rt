@@ -87,6 +87,7 @@ pub fn check_numbers(frame: &[u8; FRAME]) -> Option<CheckNumbers>
 }
 
 // The other kinds', where the twelve numbers after the kind are finite.
+#[inline(always)]
 #[tactic(auto, unfolding(crate::specs::Numbers::finite_move_of))]
 pub fn move_numbers(frame: &[u8; FRAME]) -> Option<Move>
     ensures { result ≡ finite_move_of (byte_at frame.now) }
@@ -98,6 +99,7 @@ pub fn move_numbers(frame: &[u8; FRAME]) -> Option<Move>
     }
 }
 
+#[inline(always)]
 #[tactic(auto, unfolding(crate::specs::Numbers::root_answer_of))]
 fn root_answer(frame: &[u8; FRAME], at: usize) -> RootAnswer
     requires { at + 25 ≤ frame_most }

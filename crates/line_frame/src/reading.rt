@@ -13,9 +13,7 @@ fn word_at(frame: &[u8; FRAME], at: usize) -> u64
     requires { at + 8 ≤ frame_most }
     ensures { result ≡ word_at (byte_at frame.now) at }
 {
-    let mut bytes = [0u8; 8];
-    bytes.copy_from_slice(&frame[at..at + 8]);
-    u64_from_be_bytes(bytes)
+    u64_from_be_bytes(*frame[at..].first_chunk::<8>().unwrap())
 }
 
 pub fn number_at(frame: &[u8; FRAME], at: usize) -> f64

@@ -10,7 +10,5 @@ pub fn part<const N: usize>(x: &[f64; NUMBERS], k: usize) -> [f64; N]
     requires { k + N ≤ 48 }
     ensures { result ≡ part k N x.now }
 {
-    let mut some = [0.0; N];
-    some.copy_from_slice(&x[k..k + N]);
-    some
+    *x[k..].first_chunk::<N>().unwrap()
 }

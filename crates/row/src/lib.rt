@@ -44,7 +44,9 @@ fn put(x: &mut [f64], at: usize, some: &[f64])
     requires { at + length some.now ≤ length x.old }
     ensures { x.new ≡ sets x.old at some.now }
 {
-    x[at..at + some.len()].copy_from_slice(some);
+    for (i, &number) in some.iter().enumerate() {
+        x[at + i] = number;
+    }
 }
 
 // A whole part of the row.
@@ -83,7 +85,5 @@ pub fn set_nodes(x: &mut [f64; NUMBERS], a: [f64; 8], v: [f64; 8], p: [f64; 8])
 pub fn times(x: &[f64; NUMBERS]) -> [f64; 7]
     ensures { result ≡ (numbers_in x.now).t }
 {
-    let mut t = [0.0; 7];
-    t.copy_from_slice(&x[..7]);
-    t
+    *x[..].first_chunk::<7>().unwrap()
 }

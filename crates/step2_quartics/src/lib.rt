@@ -48,6 +48,7 @@ fn acc0_vel_quartics(s: PositionThirdOrderStep2, l: Limits) -> Quartics
 }
 
 // Those of a shape; zeros for a shape that has none.
+#[inline(always)]
 pub fn quartics_of(shape: Shape, s: PositionThirdOrderStep2, l: Limits) -> Quartics
     ensures { result ≡ the_quartics shape s l }
 {
