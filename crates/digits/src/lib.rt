@@ -44,7 +44,8 @@ pub fn byte_to_digits(b: u8) -> [u8; 2]
 
 // Fills `line`, or says that the input ended before.
 pub fn read_line<R: Read>(input: &mut R, line: &mut [u8]) -> io::Result<bool>
-    ensures filled { IfOk result (λ yes. yes ≡ true → Consumes (R.remaining input.old) (R.remaining input.new) line.new) }
+    ensures filled { IfOk result
+        (λ yes. yes ≡ true → Consumes (R.remaining input.old) (R.remaining input.new) line.new) }
     ensures other { IfErr result (λ e. error_kind e ≢ ErrorKind.UnexpectedEof) }
 {
     match input.read_exact(line) {

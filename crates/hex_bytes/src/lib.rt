@@ -18,16 +18,16 @@ pub fn value(c: u8) -> u8
     }
 }
 
-// Less 48, round 256, a digit is at most 22, and less 65 at most 248; no other character is both. So the largest of
-// each tells.
+// Less 48, which is 0, round 256, a digit is at most 22, and less 65, which is A, at most 248; no other character is
+// both. So the largest of each tells.
 fn all_digits(line: &[u8]) -> bool
     ensures { result ≡ all_digits_of line.now }
 {
     let mut less_48 = 0u8;
     let mut less_65 = 0u8;
     for &c in line {
-        less_48 = less_48.max(c.wrapping_sub(48));
-        less_65 = less_65.max(c.wrapping_sub(65));
+        less_48 = less_48.max(c.wrapping_sub(b'0'));
+        less_65 = less_65.max(c.wrapping_sub(b'A'));
     }
     (less_48 <= 22) & (less_65 <= 248)
 }
@@ -54,6 +54,8 @@ fn byte(digits: u16) -> u8
 }
 
 // The bytes of digits.
+// Stays: an index into the line, here, in `any_pairs` and in `nibbles`. Tried: the places by `iter_mut` under `zip` with
+// `chunks_exact(2)`; an invariant has no name for them there, so that nothing is known of them after the loop.
 fn pairs(line: &[u8], bytes: &mut [u8])
     requires digits { all_digits_of line.now ≡ true }
     requires places { length bytes.old ≡ length line.now / 2 }
@@ -88,7 +90,7 @@ fn digit(n: u8) -> u8
     requires { n < 16 }
     ensures { result ≡ digit_of n }
 {
-    n + 48 + gap(n)
+    n + b'0' + gap(n)
 }
 
 #[tactic(auto, using(crate::proofs::Turns::decoded), unfolding(crate::specs::Hex::decode_of))]
