@@ -23,6 +23,7 @@ fn is_rest_to_rest(shape: Shape) -> bool
 
 // The quartics and the root answers are those of the second and third shape; the others do not look at them. The fourth
 // shape and kind 08 have one arm: one call for both takes a line less time than two.
+// Stays: first and second one by one: `ask` is public, and line_answers and moves_list call it so.
 pub fn ask(
     shape: Shape,
     s: PositionThirdOrderStep2,

@@ -5,6 +5,7 @@ ghost use Rattle.std.specs.Prelude.{◌≡◌, List, [], ◌∷◌, ◌++◌, �
 ghost use Rattle.positive_set.specs.Set.{held_of, set_of, insert_of, sorted_of};
 
 // Four places and how many of them are in use, from the first one on.
+// Stays: an array and a length, no slice: document 01's form, by value and with no heap.
 #[derive(Clone, Copy)]
 pub struct PositiveSet {
     pub data: [f64; 4],

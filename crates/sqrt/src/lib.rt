@@ -44,6 +44,7 @@ pub fn sqrt_unmarked(x: f64) -> f64
     if x > 0.0 {
         let bits = f64::to_bits(x);
         // the bits of infinity are above those of every finite number
+        // Stays: the number, for f64::INFINITY: `root_bits` requires it of the bits in these digits.
         if bits < 0x7ff0_0000_0000_0000 {
             f64::from_bits(root_bits(bits))
         } else {
