@@ -66,7 +66,9 @@ fn send_quartics(output: &mut impl Write, shape: Shape, x: Move) -> io::Result<(
 
 fn checked(frame: &[u8; FRAME], x: CheckNumbers) -> Checked {
     let mut q = Profile::default().set_boundary(x.p0, x.v0, x.a0, x.pf, x.vf, x.af);
-    q.t = x.t;
+    // Stays: an array that is stored in a field goes through a variable, or the check does not cover the function.
+    let t = x.t;
+    q.t = t;
     q.check(
         ControlSigns::from(frame[1]),
         ReachedLimits::from(frame[2]),
