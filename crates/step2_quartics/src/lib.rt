@@ -26,6 +26,7 @@ fn no_quartics() -> Quartics
     }
 }
 
+#[inline(always)]
 #[tactic(auto, unfolding(crate::specs::Quartics::acc1_vel_quartics_of))]
 fn acc1_vel_quartics(s: PositionThirdOrderStep2, l: Limits) -> Quartics
     ensures { result ≡ acc1_vel_quartics_of s l }
@@ -36,6 +37,7 @@ fn acc1_vel_quartics(s: PositionThirdOrderStep2, l: Limits) -> Quartics
     }
 }
 
+#[inline(always)]
 #[tactic(auto, unfolding(crate::specs::Quartics::acc0_vel_quartics_of))]
 fn acc0_vel_quartics(s: PositionThirdOrderStep2, l: Limits) -> Quartics
     ensures { result ≡ acc0_vel_quartics_of s l }
