@@ -7,7 +7,8 @@ Every public function has a row; a row names at least two must-fail edits, and n
 named; every public function has an `ensures`, with or without a name, and no `requires`; an edit with † changes no
 file of src/ outside a promise, one without † does. Status 1 where something is missing. A function is public where it
 is `pub` in src/lib.rt or in a `pub mod` of it, or a `pub` method of a type that is; and so is a conversion, `from` of
-an `impl From<A> for B`, named `B::from(A)`, whose promise is the impl's `from_gives`.
+an `impl From<A> for B`, named `B::from(A)`, whose promise is the impl's `from_gives`, and `default` of an `impl
+Default`, whose promise is `is_default`.
 """
 import glob
 import os
@@ -38,21 +39,23 @@ def functions(text, prefix, methods_only):
             yield prefix + m.group(3), m.group(4)
 
 
-def conversions(text):
-    """(name, contract) of each `impl From<A> for B` of a file."""
+def of_traits(text):
+    """(name, contract) of each `impl From<A> for B` and `impl Default for A` of a file."""
     text = re.sub(r"//.*", "", text)
     for a, b, body in re.findall(r"^impl From<(\w+)> for (\w+) \{(.*?)^\}", text, re.M | re.S):
         yield "%s::from(%s)" % (b, a), body
+    for a, body in re.findall(r"^impl Default for (\w+) \{(.*?)^\}", text, re.M | re.S):
+        yield "%s::default" % a, body
 
 
 def clauses(text):
-    """(keyword, start, end) of each `ensures`, `requires` and `from_gives` of a file, with or without a name."""
-    for m in re.finditer(r"^ *(ensures|requires|ghost from_gives) (?:\w+ |= )?\{", text, re.M):
+    """(keyword, start, end) of each `requires` and promise of a file, with or without a name."""
+    for m in re.finditer(r"^ *(ensures|requires|ghost from_gives|ghost is_default) (?:\w+ |= )?\{", text, re.M):
         end, depth = m.end(), 1
         while depth:
             depth += {"{": 1, "}": -1}.get(text[end], 0)
             end += 1
-        yield m.group(1).replace("ghost from_gives", "ensures"), m.start(), end
+        yield "requires" if m.group(1) == "requires" else "ensures", m.start(), end
 
 
 def in_a_promise(text, old):
@@ -85,11 +88,11 @@ def public(crate):
         return
     lib = read(base + "lib.rt")
     yield from functions(lib, "", False)
-    yield from conversions(lib)
+    yield from of_traits(lib)
     for pub, module in re.findall(r"^(pub )?mod (\w+);", lib, re.M):
         text = read(base + module + ".rt")
         yield from functions(text, module + "::" if pub else "", not pub)
-        yield from conversions(text)
+        yield from of_traits(text)
 
 
 def rows():

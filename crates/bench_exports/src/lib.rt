@@ -1,5 +1,5 @@
 // What the benchmarks in bench/ call from Rust: the square root, and `check` in place on a lent row.
-// An exported function takes no enum, so signs and labels are numbers.
+// Stays: signs, label and the answer as numbers, here and in bench_by_value: an exported function takes no enum.
 #![tactic(auto)]
 
 ghost use Rattle.std.specs.Prelude.{◌≡◌};

@@ -52,6 +52,8 @@ pub fn is_finite(x: f64) -> bool
     abs(x) < f64::INFINITY
 }
 
+// Stays: a name of ours for std's function, here, below and in number_bytes: public, with edits of their own, and named
+// as the Rust names what it calls.
 // `f64::from_bits`, at every pattern. The built-in one asks for a pattern that is no NaN's.
 pub fn from_bits(bits: u64) -> f64
     ensures { result ≡ of_bits binary64 bits }

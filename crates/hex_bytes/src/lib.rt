@@ -93,6 +93,8 @@ fn digit(n: u8) -> u8
     n + b'0' + gap(n)
 }
 
+// Stays: yes or no, here, in `encode` and in line_reply's three: the answer to a question, with no value beside it and no
+// error to tell; each promises what all lent places hold after a no (`decode_of`, `encode_of`, `written_of`).
 #[tactic(auto, using(crate::proofs::Turns::decoded), unfolding(crate::specs::Hex::decode_of))]
 pub fn decode(line: &[u8], bytes: &mut [u8]) -> bool
     ensures { record { ok = result; left = bytes.new } ≡ decode_of line.now bytes.old }

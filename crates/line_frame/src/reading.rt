@@ -16,6 +16,8 @@ fn word_at(frame: &[u8; FRAME], at: usize) -> u64
     u64_from_be_bytes(*frame[at..].first_chunk::<8>().unwrap())
 }
 
+// Stays: that eight places follow is asked of three private functions, here and beside: a type for a place of the frame
+// would be made at each of the forty calls, which give it as a numeral.
 pub fn number_at(frame: &[u8; FRAME], at: usize) -> f64
     requires { at + 8 ≤ frame_most }
     ensures { result ≡ number_at (byte_at frame.now) at }

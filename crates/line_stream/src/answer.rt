@@ -12,6 +12,8 @@ fn digit(n: u32) -> u8
 }
 
 // A number in two digits and a line feed, from `at` on.
+// Stays: digits by hand, since the lent places are written and nothing is allocated: `write!` needs a writer over them,
+// of which the promise (`Put`) would have to be proved besides.
 fn write_number(n: u32, out: &mut [u8], at: usize) -> usize
     requires { at + 3 ≤ length out.old }
     ensures { Put out.old at (pair_of_digits n ++ (10 ∷ [])) result out.new }

@@ -42,6 +42,7 @@ fn number(answer: Result<usize, Refusal>) -> u32
     }
 }
 
+// Stays: a plain number, here and below, since `answer_of` and `outcome_of` are the C call's promise (lines_c).
 pub fn answer_line(request: &[u8], reply: &mut [u8]) -> u32
     ensures { record { number = result; places = reply.new }
         ≡ answer_of request.now reply.old }

@@ -6,6 +6,8 @@ ghost use Rattle.std.specs.Prelude.{◌≡◌, ◌+◌, ◌≤◌, length};
 ghost use Rattle.std.proofs.lemmas.List.Edits.{sets};
 ghost use Rattle.row.specs.Row.{numbers_in, with_times, with_sums, with_jerks, with_nodes, start_of};
 
+// Stays: one array with the places of its parts by name, no struct of arrays: parts of different lengths that are read
+// and written as one run of numbers (`numbers_in`); crates/profile has the struct, `Profile`.
 pub const NUMBERS: usize = 48;
 
 pub const T_SUM: usize = 7;
@@ -25,6 +27,7 @@ pub const VF: usize = 46;
 pub const AF: usize = 47;
 
 // All zeros but for where a move begins and where it is to end.
+// Stays: six numbers one by one, here and in `set_boundary`, since they are the Rust's parameters in its order.
 #[tactic(auto, unfolding(crate::specs::Row::part))]
 pub fn start(p0: f64, v0: f64, a0: f64, pf: f64, vf: f64, af: f64) -> [f64; NUMBERS]
     ensures { numbers_in result ≡ start_of p0 v0 a0 pf vf af }

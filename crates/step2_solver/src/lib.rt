@@ -30,6 +30,8 @@ pub struct Move {
 }
 
 // The limits that every shape is passed.
+// Stays: the solver's record and the limits side by side in every function of a shape: in the Rust the one is `self`
+// and the others are its parameters.
 #[derive(Clone, Copy)]
 pub struct Limits {
     pub v_max: f64,
