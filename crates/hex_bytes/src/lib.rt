@@ -54,8 +54,8 @@ fn byte(digits: u16) -> u8
 }
 
 // The bytes of digits.
-// Stays: an index into the line, here, in `any_pairs` and in `nibbles`. Tried: the places by `iter_mut` under `zip` with
-// `chunks_exact(2)`; an invariant has no name for them there, so that nothing is known of them after the loop.
+// Stays: an index into the line, here, in `any_pairs` and in `nibbles`. Tried: the places by `iter_mut` under `zip`
+// with `chunks_exact(2)`; an invariant has no name for them there, so that nothing is known of them after the loop.
 fn pairs(line: &[u8], bytes: &mut [u8])
     requires digits { all_digits_of line.now ≡ true }
     requires places { length bytes.old ≡ length line.now / 2 }
@@ -93,8 +93,8 @@ fn digit(n: u8) -> u8
     n + b'0' + gap(n)
 }
 
-// Stays: yes or no, here, in `encode` and in line_reply's three: the answer to a question, with no value beside it and no
-// error to tell; each promises what all lent places hold after a no (`decode_of`, `encode_of`, `written_of`).
+// Stays: yes or no, here, in `encode` and in line_reply's three: the answer to a question, with no value beside it and
+// no error to tell; each promises what all lent places hold after a no (`decode_of`, `encode_of`, `written_of`).
 #[tactic(auto, using(crate::proofs::Turns::decoded), unfolding(crate::specs::Hex::decode_of))]
 pub fn decode(line: &[u8], bytes: &mut [u8]) -> bool
     ensures { record { ok = result; left = bytes.new } ≡ decode_of line.now bytes.old }

@@ -1,8 +1,8 @@
 // What include/siptkvaro.h declares: the two functions of `lines` under the names by which C calls them.
 #![tactic(auto)]
 
-// Stays: numbers that are a plain u32, and a count beside the places. This is the C interface; `lines::answered` has the
-// `Result` that they are made of.
+// Stays: numbers that are a plain u32, and a count beside the places. This is the C interface; `lines::answered` has
+// the `Result` that they are made of.
 
 ghost use Rattle.std.specs.Prelude.{◌≡◌};
 ghost use Rattle.lines.specs.Answer.{answer_of, outcome_of};

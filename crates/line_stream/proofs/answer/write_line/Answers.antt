@@ -7,7 +7,8 @@ use Rattle.line_stream.proofs.answer.write_line.Goals as goal
 
 pub end_reply-requires : goal.end_reply-requires
 end_reply-requires c =
-    let m = filled_few c.args.text.now c.args.out.now _ c.args.at _ _ c.requires (rw c.in-Ok.is at c.answered.ensures) in
+    let e = rw c.in-Ok.is at c.answered.ensures in
+    let m = filled_few c.args.text.now c.args.out.now _ c.args.at _ _ c.requires e in
     search rules
 
 pub returns-in-Ok : goal.returns-in-Ok
