@@ -19,8 +19,8 @@ use line_questions::{counts_fit, counts_suit};
 use line_reply::{write_causes, write_quartics, write_record};
 use position_third_step2::in_place::ask;
 use profile::in_place::Verdict;
-use roots::RootAnswer;
 use row::{NUMBERS, start};
+use step2_over_roots::RootAnswers;
 use step2_quartics::{Quartics, quartics_of};
 use step2_solver::{Limits, Move, PositionThirdOrderStep2, Shape};
 
@@ -61,15 +61,14 @@ fn shape_reply(
     s: PositionThirdOrderStep2,
     l: Limits,
     q: Quartics,
-    first: RootAnswer,
-    second: RootAnswer,
+    answers: RootAnswers,
     reply: &mut [u8],
 ) -> bool
     ensures { record { ok = result; left = reply.new }
-        ≡ shape_written wanted (shape_of shape s l q first second (fresh x)) reply.old }
+        ≡ shape_written wanted (shape_of shape s l q answers.uddu answers.udud (fresh x)) reply.old }
 {
     let mut row = start(x.p0, x.v0, x.a0, x.pf, x.vf, x.af);
-    let answer = ask(shape, s, l, q, first, second, &mut row, start_labels());
+    let answer = ask(shape, s, l, q, answers, &mut row, start_labels());
     wanted.write(reply, answer, &row)
 }
 
@@ -95,17 +94,11 @@ pub fn shape_line(
     if reply.len() < wanted.places() {
         return Err(Refusal::Places);
     }
-    shape_reply(
-        wanted,
-        shape,
-        x,
-        s,
-        l,
-        q,
-        first_answer(frame),
-        second_answer(frame),
-        reply,
-    );
+    let answers = RootAnswers {
+        uddu: first_answer(frame),
+        udud: second_answer(frame),
+    };
+    shape_reply(wanted, shape, x, s, l, q, answers, reply);
     Ok(())
 }
 

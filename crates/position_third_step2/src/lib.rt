@@ -15,26 +15,29 @@ ghost use Rattle.position_third_step2.specs.Shape.{asked_of, limits, unasked};
 use in_place::ask;
 use profile::{Checked, Profile};
 use roots::RootAnswer;
+use step2_over_roots::RootAnswers;
 use step2_quartics::quartics_of;
 use step2_solver::{Limits, PositionThirdOrderStep2, Shape};
 
 // Stands for the answers of a shape that looks at none.
-const UNASKED: RootAnswer = RootAnswer::CubeRoot(0.0);
+const UNASKED: RootAnswers = RootAnswers {
+    uddu: RootAnswer::CubeRoot(0.0),
+    udud: RootAnswer::CubeRoot(0.0),
+};
 
 // Any shape by value: on the row of the profile.
 fn asked(
     shape: Shape,
     s: PositionThirdOrderStep2,
     l: Limits,
-    first: RootAnswer,
-    second: RootAnswer,
+    answers: RootAnswers,
     profile: Profile,
 ) -> Checked
-    ensures { result ≡ asked_of shape s l first second profile }
+    ensures { result ≡ asked_of shape s l answers.uddu answers.udud profile }
 {
     let mut x = profile.row();
     let q = quartics_of(shape, s, l);
-    let answer = ask(shape, s, l, q, first, second, &mut x, profile.labels());
+    let answer = ask(shape, s, l, q, answers, &mut x, profile.labels());
     Checked {
         ok: answer.ok,
         profile: Profile::from_row(x, answer.labels),
@@ -53,7 +56,8 @@ fn limits(v_max: f64, v_min: f64, a_max: f64, a_min: f64, j_max: f64) -> Limits
     }
 }
 
-// Stays: six functions, each with the limits one by one: they are the Rust's by name, with its parameters in its order.
+// Stays: six functions, each with the limits one by one, and two of them with first and second one by one: they are the
+// Rust's by name, with its parameters in its order.
 
 pub fn time_acc0_acc1_vel(
     s: PositionThirdOrderStep2,
@@ -68,7 +72,7 @@ pub fn time_acc0_acc1_vel(
         unasked unasked profile }
 {
     let l = limits(v_max, v_min, a_max, a_min, j_max);
-    asked(Shape::Acc0Acc1Vel, s, l, UNASKED, UNASKED, profile)
+    asked(Shape::Acc0Acc1Vel, s, l, UNASKED, profile)
 }
 
 pub fn time_acc1_vel(
@@ -85,7 +89,11 @@ pub fn time_acc1_vel(
     ensures { result ≡ asked_of Acc1Vel s (limits v_max v_min a_max a_min j_max) first second profile }
 {
     let l = limits(v_max, v_min, a_max, a_min, j_max);
-    asked(Shape::Acc1Vel, s, l, first, second, profile)
+    let answers = RootAnswers {
+        uddu: first,
+        udud: second,
+    };
+    asked(Shape::Acc1Vel, s, l, answers, profile)
 }
 
 pub fn time_acc0_vel(
@@ -102,7 +110,11 @@ pub fn time_acc0_vel(
     ensures { result ≡ asked_of Acc0Vel s (limits v_max v_min a_max a_min j_max) first second profile }
 {
     let l = limits(v_max, v_min, a_max, a_min, j_max);
-    asked(Shape::Acc0Vel, s, l, first, second, profile)
+    let answers = RootAnswers {
+        uddu: first,
+        udud: second,
+    };
+    asked(Shape::Acc0Vel, s, l, answers, profile)
 }
 
 pub fn time_acc0_acc1(
@@ -117,7 +129,7 @@ pub fn time_acc0_acc1(
     ensures { result ≡ asked_of Acc0Acc1 s (limits v_max v_min a_max a_min j_max) unasked unasked profile }
 {
     let l = limits(v_max, v_min, a_max, a_min, j_max);
-    asked(Shape::Acc0Acc1, s, l, UNASKED, UNASKED, profile)
+    asked(Shape::Acc0Acc1, s, l, UNASKED, profile)
 }
 
 pub fn time_acc0(
@@ -132,7 +144,7 @@ pub fn time_acc0(
     ensures { result ≡ asked_of Acc0 s (limits v_max v_min a_max a_min j_max) unasked unasked profile }
 {
     let l = limits(v_max, v_min, a_max, a_min, j_max);
-    asked(Shape::Acc0, s, l, UNASKED, UNASKED, profile)
+    asked(Shape::Acc0, s, l, UNASKED, profile)
 }
 
 // Document 02's, kind 08.
@@ -149,5 +161,5 @@ pub fn time_rest_to_rest(
         unasked unasked profile }
 {
     let l = limits(v_max, v_min, a_max, a_min, j_max);
-    asked(Shape::RestToRest, s, l, UNASKED, UNASKED, profile)
+    asked(Shape::RestToRest, s, l, UNASKED, profile)
 }

@@ -6,10 +6,10 @@ ghost use Rattle.time_acc0_vel.specs.TimeAcc0Vel.{acc0_vel_too_short, acc0_vel_u
 ghost use Rattle.time_acc0_vel.specs.TimeAcc0Vel.{acc0_vel_udud_window, acc0_vel_udud};
 ghost use Rattle.step2_over_roots.specs.OverRoots.{over_roots};
 
+use super::RootAnswers;
 use super::over_roots::over_roots;
 use labels::Labels;
 use profile::in_place::Verdict;
-use roots::RootAnswer;
 use row::NUMBERS;
 use step2_quartics::Quartics;
 use step2_solver::{Limits, PositionThirdOrderStep2, Window};
@@ -42,15 +42,14 @@ pub fn time_acc0_vel(
     s: PositionThirdOrderStep2,
     l: Limits,
     q: Quartics,
-    first: RootAnswer,
-    second: RootAnswer,
+    answers: RootAnswers,
     x: &mut [f64; NUMBERS],
     labels: Labels,
 ) -> Verdict
     ensures { checked_in x.new result
         ≡ tried_of l (cond (acc0_vel_too_short s l.a_max l.j_max) []
-        (over_roots (acc0_vel_uddu s l (acc0_vel_uddu_window s l)) q.uddu first
-        ++ over_roots (acc0_vel_udud s l (acc0_vel_udud_window s l)) q.udud second))
+        (over_roots (acc0_vel_uddu s l (acc0_vel_uddu_window s l)) q.uddu answers.uddu
+        ++ over_roots (acc0_vel_udud s l (acc0_vel_udud_window s l)) q.udud answers.udud))
         (profile_in x.old labels) }
 {
     if too_short(s, l.a_max, l.j_max) {
@@ -61,7 +60,7 @@ pub fn time_acc0_vel(
         |root| time_acc0_vel::uddu(s, l, w, root),
         l,
         q.uddu,
-        first,
+        answers.uddu,
         x,
         labels,
     );
@@ -73,7 +72,7 @@ pub fn time_acc0_vel(
         |root| time_acc0_vel::udud(s, l, w, root),
         l,
         q.udud,
-        second,
+        answers.udud,
         x,
         r.labels,
     )

@@ -6,10 +6,10 @@ ghost use Rattle.time_acc1_vel.specs.TimeAcc1Vel.{acc1_vel_uddu_window, acc1_vel
 ghost use Rattle.time_acc1_vel.specs.TimeAcc1Vel.{acc1_vel_udud_window, acc1_vel_udud};
 ghost use Rattle.step2_over_roots.specs.OverRoots.{over_roots};
 
+use super::RootAnswers;
 use super::over_roots::over_roots;
 use labels::Labels;
 use profile::in_place::Verdict;
-use roots::RootAnswer;
 use row::NUMBERS;
 use step2_quartics::Quartics;
 use step2_solver::{Limits, PositionThirdOrderStep2, Window};
@@ -40,14 +40,13 @@ pub fn time_acc1_vel(
     s: PositionThirdOrderStep2,
     l: Limits,
     q: Quartics,
-    first: RootAnswer,
-    second: RootAnswer,
+    answers: RootAnswers,
     x: &mut [f64; NUMBERS],
     labels: Labels,
 ) -> Verdict
     ensures { checked_in x.new result
-        ≡ tried_of l (over_roots (acc1_vel_uddu s l (acc1_vel_uddu_window s l)) q.uddu first
-        ++ over_roots (acc1_vel_udud s l (acc1_vel_udud_window s l)) q.udud second)
+        ≡ tried_of l (over_roots (acc1_vel_uddu s l (acc1_vel_uddu_window s l)) q.uddu answers.uddu
+        ++ over_roots (acc1_vel_udud s l (acc1_vel_udud_window s l)) q.udud answers.udud)
         (profile_in x.old labels) }
 {
     let w = uddu_window(s, l);
@@ -55,7 +54,7 @@ pub fn time_acc1_vel(
         |root| time_acc1_vel::uddu(s, l, w, root),
         l,
         q.uddu,
-        first,
+        answers.uddu,
         x,
         labels,
     );
@@ -67,7 +66,7 @@ pub fn time_acc1_vel(
         |root| time_acc1_vel::udud(s, l, w, root),
         l,
         q.udud,
-        second,
+        answers.udud,
         x,
         r.labels,
     )

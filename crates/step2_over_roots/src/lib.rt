@@ -4,3 +4,12 @@
 pub mod acc0_vel;
 pub mod acc1_vel;
 mod over_roots;
+
+use roots::RootAnswer;
+
+// The root answers for UDDU's quartic and for UDUD's.
+#[derive(Clone, Copy)]
+pub struct RootAnswers {
+    pub uddu: RootAnswer,
+    pub udud: RootAnswer,
+}

@@ -8,5 +8,5 @@ pub returns : goal.returns
 unfolding profile_in
 returns c =
     rw c.from_row.ensures
-    (put_together (asked_of c.args.shape c.args.s c.args.l c.args.first c.args.second) c.args.profile c.row-x.ensures
-    c.labels.ensures (rw (← c.quartics_of-q.ensures) c.ask-answer.ensures))
+    (put_together (asked_of c.args.shape c.args.s c.args.l c.args.answers.uddu c.args.answers.udud) c.args.profile
+    c.row-x.ensures c.labels.ensures (rw (← c.quartics_of-q.ensures) c.ask-answer.ensures))

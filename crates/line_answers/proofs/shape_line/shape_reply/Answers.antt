@@ -14,5 +14,5 @@ returns c =
     c.write.ensures
     ∙ ap (λ (y : Checked). shape_written c.args.wanted y lent)
     (shaped c.start_labels.ensures
-    (shape_of c.args.shape c.args.s c.args.l c.args.q c.args.first c.args.second) c.args.x
+    (shape_of c.args.shape c.args.s c.args.l c.args.q c.args.answers.uddu c.args.answers.udud) c.args.x
     c.start-row.ensures c.ask-answer.ensures)
