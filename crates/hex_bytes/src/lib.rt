@@ -54,8 +54,8 @@ fn byte(digits: u16) -> u8
 }
 
 // The bytes of digits.
-// Stays: an index into the line, here, in `any_pairs` and in `nibbles`. Tried: the places by `iter_mut` under `zip`
-// with `chunks_exact(2)`; an invariant has no name for them there, so that nothing is known of them after the loop.
+// Stays: an index into the line, here and in `any_pairs`. Tried: the places by `iter_mut` under `zip` with
+// `chunks_exact(2)`; an invariant has no name for them there, so that nothing is known of them after the loop.
 fn pairs(line: &[u8], bytes: &mut [u8])
     requires digits { all_digits_of line.now ≡ true }
     requires places { length bytes.old ≡ length line.now / 2 }
@@ -113,6 +113,7 @@ pub fn decode(line: &[u8], bytes: &mut [u8]) -> bool
 }
 
 // The values of the bytes' digits.
+// Stays: an index into the values, since std says nothing of what a slice ends as under `as_chunks_mut`.
 fn nibbles(bytes: &[u8], values: &mut [u8])
     requires { length values.old ≡ 2 * length bytes.now }
     ensures { values.new ≡ nibbles_of bytes.now }

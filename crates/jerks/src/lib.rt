@@ -59,8 +59,8 @@ fn jerk(s: Sign, t: f64, jf: f64) -> f64
     pick(t > 0.0, signed(s, jf), 0.0)
 }
 
-// Stays: seven calls: of `array::from_fn(|i| jerk(row[i], t[i], jf))` neither `search` nor `grind` finds `jerks_of`,
-// and these need no proof file.
+// Stays: seven calls, no plainer by `array::from_fn(|i| jerk(row[i], t[i], jf))`: of that neither `search` nor `grind`
+// finds `jerks_of`, and it would need a proof by hand where these need none.
 #[tactic(auto, unfolding(crate::specs::Jerks::jerks_of))]
 pub fn jerks(control_signs: ControlSigns, t: [f64; 7], jf: f64) -> [f64; 7]
     ensures { result ≡ jerks_of control_signs t jf }

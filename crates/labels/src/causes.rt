@@ -2,7 +2,8 @@
 ghost use Rattle.std.specs.Prelude.{◌≡◌};
 ghost use Rattle.labels.specs.Causes.{cause_number_of, is_yes, counted_of};
 
-// Stays: Yes among the causes, no Option of one: document 02 numbers it 0 and records it (`cause_number_of`).
+// Stays: Yes, NoCall and NoRoot among the causes, no Option of one: document 02 numbers them 0, 12 and 13, and a record
+// has each like the others (`cause_number_of`).
 #[derive(Clone, Copy)]
 pub enum Cause {
     Yes,

@@ -11,6 +11,7 @@ ghost use Rattle.labels.specs.Labels.{label_of, signs_of, start_labels_of, marke
 
 use causes::Cause;
 
+// Stays: None among the labels: it is the Rust's, and a reply has its number 7 like the others' (`label_number_of`).
 #[derive(Clone, Copy)]
 pub enum ReachedLimits {
     Acc0Acc1Vel,

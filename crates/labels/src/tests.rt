@@ -33,6 +33,7 @@ const VEL: Tests = Tests {
 };
 
 // A row for each label, in the enum's order.
+// A static: as a constant of struct updates it was built on the stack in each call of `check`.
 static TESTS: [Tests; 8] = [
     VEL,
     VEL,

@@ -74,7 +74,7 @@ fn check_at(frame: &[u8; FRAME]) -> CheckNumbers
     }
 }
 
-// Stays: two functions, here and above, since the two structs have other fields at other places of the frame.
+// Stays: two functions, this and `move_numbers`, since the two structs have other fields at other places of the frame.
 // Kind 00's numbers, where the eleven after the times are finite; the times may be any.
 #[tactic(auto, unfolding(crate::specs::Numbers::finite_check_of))]
 pub fn check_numbers(frame: &[u8; FRAME]) -> Option<CheckNumbers>
@@ -88,6 +88,7 @@ pub fn check_numbers(frame: &[u8; FRAME]) -> Option<CheckNumbers>
 }
 
 // The other kinds', where the twelve numbers after the kind are finite.
+// Inlined: it has two callers, and handed over in memory the numbers cost a line a twentieth of its time.
 #[inline(always)]
 #[tactic(auto, unfolding(crate::specs::Numbers::finite_move_of))]
 pub fn move_numbers(frame: &[u8; FRAME]) -> Option<Move>
@@ -120,8 +121,8 @@ fn root_answer(frame: &[u8; FRAME], at: usize) -> RootAnswer
     )
 }
 
-// Stays: two by name, since each is public with a promise of its own (`first_answer_of`, `second_answer_of`); they are
-// the two calls of `root_answer`, which may ask where in the frame it is to read.
+// Stays: two by name, since each is public with a promise of its own (`first_answer_of`, `second_answer_of`); what they
+// share is `root_answer`, which has a `requires` and so is not public.
 // The answer for UDDU's quartic.
 pub fn first_answer(frame: &[u8; FRAME]) -> RootAnswer
     ensures { result ≡ first_answer_of (byte_at frame.now) }

@@ -17,7 +17,7 @@ fn word_at(frame: &[u8; FRAME], at: usize) -> u64
 }
 
 // Stays: that eight places follow is asked of three private functions, here and beside: a type for a place of the frame
-// would be made at each of the forty calls, which give it as a numeral.
+// would be made at each of their calls, which give it as a numeral.
 pub fn number_at(frame: &[u8; FRAME], at: usize) -> f64
     requires { at + 8 ≤ frame_most }
     ensures { result ≡ number_at (byte_at frame.now) at }
@@ -36,6 +36,7 @@ pub fn finite_at(frame: &[u8; FRAME], at: usize) -> f64
 }
 
 // Kind 00's times.
+// Stays: seven calls, as in crates/jerks.
 pub fn times(frame: &[u8; FRAME]) -> [f64; 7]
     ensures { result ≡ numbers_at (byte_at frame.now) 4 7 }
 {

@@ -82,7 +82,7 @@ row_in (k ∷ ks) n = cond (eqb n k.number) (Some k.row) (row_in ks n)
 unfoldable pub row_of : ℕ → Option Row
 row_of n = row_in kinds n
 
--- what a line asks, and the places of its reply, by the row of its kind; no kind asks nothing and has no place
+-- what a line asks, and the places of its reply, by the row of its kind; nothing and none where there is no such kind
 abbrev pub asks_of : Option Row → Option Asks
 asks_of None = None
 asks_of (Some row) = Some row.asks

@@ -55,6 +55,7 @@ impl Row {
 }
 
 // Whether the shape tries the roots of quartics, so that a line has their answers.
+// Stays: a name for one `matches!`, public with a promise and edits of its own, like `is_yes` of a cause.
 pub fn takes_roots(shape: Shape) -> bool
     ensures { result ≡ takes_roots_of shape }
 {
@@ -62,6 +63,7 @@ pub fn takes_roots(shape: Shape) -> bool
 }
 
 // The row of a kind, where there is such a kind.
+// Stays: the kind is a byte and no enum, since this table is where a line's byte becomes what it asks.
 #[tactic(auto, unfolding(crate::specs::Kinds::row_of))]
 pub fn row_of(kind: u8) -> Option<Row>
     ensures { result ≡ row_of kind }

@@ -72,7 +72,7 @@ module _ (shape : Shape) (a b d n : ℕ) (rest : List ℕ) where
     asked =
         line_questions_of (b ∷ d ∷ rest) (Some (row_with n (OfShape shape)))
         ++ (ask 4 (bytes_fit (length (y ∷ bytes_of rest)) (row_with n (OfShape shape)))
-          ∷ questions_of (OfShape shape) at)
+        ∷ questions_of (OfShape shape) at)
 
     line-asked : (p : ℕ) → questions (a ∷ d ∷ rest) p ≡ asked ++ (ask 8 (leb causes_places p) ∷ [])
     line-asked p = rw (e, h, same-questions shape x y (bytes_of rest))

@@ -18,6 +18,8 @@ const BLOCK: usize = 65536;
 
 const OUT: usize = SPREAD * BLOCK + 2 * ROOM;
 
+// Stays: a number below 0 for a read that failed, though std's `read` gives none: `turn` promises what it writes of one
+// too (`turn_of`, `clamp_len`).
 fn given(got: isize, block: &[u8]) -> usize
     ensures { result ≡ clamp_len got (length block.now) }
 {
@@ -40,7 +42,7 @@ fn turn(
         (take (clamp_len got (length block.now)) block.now))
         result.used result.count result.filled kept.new out.old out.new }
 {
-    // the first places are to be had of a slice, not of a lent array
+    // a slice, of which the proof knows the length
     let block: &[u8] = block;
     let n = given(got, block);
     line_stream::stream(&block[..n], kept, count, out)

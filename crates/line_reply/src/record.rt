@@ -20,7 +20,8 @@ fn put_head(bytes: &mut [u8; 364], answer: Verdict)
     bytes[3] = u8::from(labels.control_signs);
 }
 
-// The head, and the six rows one by one: a loop over all 45 numbers takes longer.
+// The head, and the six rows.
+// Stays: six calls, since a loop over all 45 numbers takes longer.
 pub fn put_record(bytes: &mut [u8; 364], answer: Verdict, x: &[f64; NUMBERS])
     ensures { bytes.new ≡ reply_bytes_of (checked_in x.now answer) }
 {

@@ -13,6 +13,8 @@ fn put(bytes: &mut [u8], at: usize, x: f64)
     bytes[at..at + 8].copy_from_slice(&to_be_bytes(x));
 }
 
+// Stays: where in the whole it stores is a number beside the places, here, in `put` and in line_stream's answers, since
+// the promises say what the whole holds (`sets bytes.old at ..`), and under `zip` an invariant has no name for it.
 pub fn put_row(bytes: &mut [u8], at: usize, row: &[f64])
     requires { at + 8 * length row.now ≤ length bytes.old }
     ensures { bytes.new ≡ sets bytes.old at (numbers_bytes row.now) }

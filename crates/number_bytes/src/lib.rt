@@ -21,6 +21,7 @@ pub fn to_be_bytes(x: f64) -> [u8; 8]
 }
 
 // `f64::is_finite` of the number with these bits: below infinity's, the sign left out.
+// Stays: infinity's bits as a number, since no number is made of the bits here.
 pub fn finite_bits(bits: u64) -> bool
     ensures { result ≡ finite (of_bits binary64 bits) }
 {

@@ -28,6 +28,7 @@ pub struct Next {
     pub a: f64,
 }
 
+// Stays: p0, v0, a0 one by one, no `State`: they are handed on to the Rust's `integrate`, which takes them so.
 pub fn phase(
     i: usize,
     t: f64,

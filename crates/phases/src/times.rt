@@ -12,8 +12,8 @@ use row::{NUMBERS, T_SUM};
 
 const T_MAX: f64 = 1e12;
 
-// Stays: an index over the sums, since each is read back from the row as the one before: an iterator over it would have
-// to lend two places at once, the one read and the one written.
+// Stays: an index over the sums, since under an adapter of `iter_mut` an invariant has no name for the places that are
+// written (as in hex_bytes' `pairs`), and a no on the way leaves those after it as they came.
 pub fn sums(x: &mut [f64; NUMBERS]) -> bool
     ensures { record { ok = result; left = numbers_in x.new } ≡ summed_of (numbers_in x.old) }
 {

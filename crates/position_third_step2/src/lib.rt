@@ -20,6 +20,7 @@ use step2_quartics::quartics_of;
 use step2_solver::{Limits, PositionThirdOrderStep2, Shape};
 
 // Stands for the answers of a shape that looks at none.
+// Stays: answers of 0 and no Option: `asked_of` has them (`unasked`), and `ask` takes answers of any shape.
 const UNASKED: RootAnswers = RootAnswers {
     uddu: RootAnswer::CubeRoot(0.0),
     udud: RootAnswer::CubeRoot(0.0),
@@ -56,8 +57,8 @@ fn limits(v_max: f64, v_min: f64, a_max: f64, a_min: f64, j_max: f64) -> Limits
     }
 }
 
-// Stays: six functions, each with the limits one by one, and two of them with first and second one by one: they are the
-// Rust's by name, with its parameters in its order.
+// Stays: six functions, each with the limits one by one, and two of them with first and second one by one: five are the
+// Rust's by name, with its parameters in its order, and the sixth, document 02's, is like them.
 
 pub fn time_acc0_acc1_vel(
     s: PositionThirdOrderStep2,

@@ -1,6 +1,6 @@
 // profile.rs: the functions that change a record which their caller keeps, as the Rust has them with `&mut self`.
 // The work is that of `profile`, by value: here the record is read, and what comes back is stored.
-// Stays: each beside a function by value and one in place: document 01 names these forms, and each has its promise.
+// Stays: each beside a function by value, and the checks beside one in place too: document 01 names these forms.
 #![tactic(auto)]
 
 ghost use Rattle.std.specs.Prelude.{◌≡◌};

@@ -31,6 +31,7 @@ pub enum RootAnswer {
 }
 
 // What a quartic needs to be handed in.
+// Stays: Nothing among the needs, no Option of one: a reply has its number 0 like the others' (`need_number_of`).
 #[derive(Clone, Copy)]
 pub enum Need {
     Nothing,
@@ -55,7 +56,8 @@ fn small(x: f64) -> bool
 }
 
 // What has to be handed in for a quartic.
-// Stays: a, b, c, d one by one, here and below: a struct is no plainer, since each formula names them, as in the Rust.
+// Stays: a, b, c, d one by one, here and below, since this and `resolvent_arguments` are public with clauses that name
+// them (`need_of a b c d`), and each formula names them, as in the Rust.
 #[tactic(auto, using(crate::proofs::Needs::d_alone), unfolding(crate::specs::Quartic::need_of))]
 pub fn quartic_need(a: f64, b: f64, c: f64, d: f64) -> Need
     ensures { result ≡ need_of a b c d }

@@ -27,7 +27,7 @@ pub const VF: usize = 46;
 pub const AF: usize = 47;
 
 // All zeros but for where a move begins and where it is to end.
-// Stays: six numbers one by one, here and in `set_boundary`, since they are the Rust's parameters in its order.
+// Stays: six numbers one by one, as in the Rust's `set_boundary`, which gives them in this order.
 #[tactic(auto, unfolding(crate::specs::Row::part))]
 pub fn start(p0: f64, v0: f64, a0: f64, pf: f64, vf: f64, af: f64) -> [f64; NUMBERS]
     ensures { numbers_in result ≡ start_of p0 v0 a0 pf vf af }
@@ -43,6 +43,8 @@ pub fn start(p0: f64, v0: f64, a0: f64, pf: f64, vf: f64, af: f64) -> [f64; NUMB
 }
 
 // Numbers from a place on.
+// Stays: one by one, no `copy_from_slice`: std's copy tests whether the two places overlap, and with it and its like
+// elsewhere a line of kind 01 took a tenth longer (docs/DECISIONS.md, 'The design pass').
 fn put(x: &mut [f64], at: usize, some: &[f64])
     requires { at + length some.now ≤ length x.old }
     ensures { x.new ≡ sets x.old at some.now }

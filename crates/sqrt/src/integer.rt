@@ -4,6 +4,8 @@ ghost use Rattle.sqrt.specs.Sqrt.{IsRoot};
 ghost use Rattle.sqrt.specs.Steps.{Radicand, Guess, Follows};
 
 // One step of Newton's method.
+// Stays: the range of `a` asked of the four functions of this file: a type for it would be made in one place, and taken
+// apart in each formula.
 #[tactic(auto, using(crate::proofs::Newton::follows))]
 fn step(a: u64, h: u64) -> u64
     requires radicand { Radicand a }

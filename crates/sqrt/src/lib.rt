@@ -22,9 +22,9 @@ pub fn sqrt(x: f64) -> Option<f64>
     }
 }
 
+// What goes on into the formulas: from a mark, NaN.
 // Stays: two names for what an Option offers, since both are public with promises and edits of their own (`f64_of`,
 // `is_mark_of`).
-// What goes on into the formulas: from a mark, NaN.
 #[tactic(auto, using(crate::proofs::Cases::or_nan))]
 pub fn to_f64(root: Option<f64>) -> f64
     ensures { result ≡ f64_of root }

@@ -26,6 +26,7 @@ fn no_quartics() -> Quartics
     }
 }
 
+// Inlined, like those below: handed over in memory the coefficients cost a line of kinds 06 and 07 some hundredths.
 #[inline(always)]
 #[tactic(auto, unfolding(crate::specs::Quartics::acc1_vel_quartics_of))]
 fn acc1_vel_quartics(s: PositionThirdOrderStep2, l: Limits) -> Quartics
@@ -50,6 +51,7 @@ fn acc0_vel_quartics(s: PositionThirdOrderStep2, l: Limits) -> Quartics
 }
 
 // Those of a shape; zeros for a shape that has none.
+// Stays: zeros and no Option: `the_quartics` has them, and `ask` takes quartics of any shape.
 #[inline(always)]
 pub fn quartics_of(shape: Shape, s: PositionThirdOrderStep2, l: Limits) -> Quartics
     ensures { result ≡ the_quartics shape s l }

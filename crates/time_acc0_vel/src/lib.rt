@@ -79,9 +79,9 @@ fn uddu_times(s: PositionThirdOrderStep2, a_max: f64, j_max: f64, t: f64, h1: f6
     times_of(t0, t1, t2, t3, t4, t5, t6)
 }
 
+// One root.
 // Stays: two functions, this and `udud`, since each step has a formula of its own, by the Rust's name: a generic one
 // would be handed each of them.
-// One root.
 #[tactic(auto, unfolding(crate::specs::TimeAcc0Vel::acc0_vel_uddu))]
 pub fn uddu(s: PositionThirdOrderStep2, l: Limits, w: Window, root: f64) -> Trial
     ensures { result ≡ acc0_vel_uddu s l w root }
