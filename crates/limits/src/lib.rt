@@ -72,8 +72,8 @@ fn velocities_kept(x: &[f64; NUMBERS], band: Band) -> bool
 }
 
 // All are looked at before any is told from the others: most moves that get here pass.
-// Stays: written out, like `first_short` of phases: over an array of tests and causes they would be told from the others
-// one by one, which took a line up to one in a hundred longer (docs/DECISIONS.md, 'Causes').
+// Stays: written out, like `first_short` of phases: over an array of tests and causes they would be told from the
+// others one by one, which took a line up to one in a hundred longer (docs/DECISIONS.md, 'Causes').
 fn first_failing(p: bool, v: bool, a: bool, a_kept: bool, v_kept: bool) -> Cause
     ensures { result ≡ cause_of (five_tests p v a a_kept v_kept) }
 {

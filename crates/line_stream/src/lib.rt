@@ -47,8 +47,8 @@ fn end_line(part: &[u8], kept: &mut [u8], count: usize, out: &mut [u8], at: usiz
 // Answers the lines that end in `input`, as long as `out` has room for another answer, `ROOM` places. The first `count`
 // places of `kept` hold the first characters of a line that began in an earlier call; `used` says where the next call
 // goes on.
-// Stays: `kept` with `count` beside it, here and in line_cut's `keep`. The promises of `stream`, `finish` and `keep` are
-// for every count, also one above the places; a type that holds the count within them would ask more of callers.
+// Stays: `kept` with `count` beside it, here and in line_cut's `keep`. The promises of `stream`, `finish` and `keep`
+// are for every count, also one above the places; a type that holds the count within them would ask more of callers.
 pub fn stream(input: &[u8], kept: &mut [u8; KEPT], count: usize, out: &mut [u8]) -> Streamed
     ensures { Streams (call_of (length out.old) (take count kept.old) input.now)
         result.used result.count result.filled kept.new out.old out.new }

@@ -41,8 +41,9 @@ fn no(was: Labels, direction: Direction, calls: u8, cause: Cause) -> Verdict
     }
 }
 
-// Stays: jf to a_min one by one, since they are the parameters of the Rust's `check`, in its order. The lent row and the
-// labels stay two, here and in all that calls this: the row is changed in place, and the labels come back in a verdict.
+// Stays: jf to a_min one by one, since they are the parameters of the Rust's `check`, in its order. The lent row and
+// the labels stay two, here and in all that calls this: the row is changed in place, and the labels come back in a
+// verdict.
 pub fn check(
     x: &mut [f64; NUMBERS],
     labels: Labels,

@@ -184,9 +184,9 @@ fn uddu(s: PositionThirdOrderStep2, l: Limits) -> Trial
 }
 
 // The one attempt that is made: the Rust's, or kind 08's.
-// Stays: a bool that says which t[1], here, in what this calls and in its caller: with an arm, an attempt and a function
-// of its own for each, which a closure for t[1] comes to, kinds 03, 04, 13 and 14 took 1.04 to 1.05 of the time
-// (docs/DECISIONS.md, 'Shapes').
+// Stays: a bool that says which t[1], here, in what this calls and in its caller: with an arm, an attempt and a
+// function of its own for each, which a closure for t[1] comes to, kinds 03, 04, 13 and 14 took 1.04 to 1.05 of the
+// time (docs/DECISIONS.md, 'Shapes').
 pub fn attempt(rest_to_rest: bool, s: PositionThirdOrderStep2, l: Limits) -> Trial
     ensures { result ≡ acc0_acc1_by rest_to_rest s l }
 {
