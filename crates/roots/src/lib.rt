@@ -16,6 +16,7 @@ use sqrt::sqrt_unmarked;
 const EPS_M_BY_16: f64 = 16.0 * f64::EPSILON;
 
 // The resolvent's three arguments or its three values.
+// Stays: three fields, no array: document 01's form, a struct of three floats.
 #[derive(Clone, Copy)]
 pub struct Three {
     pub x0: f64,

@@ -87,6 +87,7 @@ pub struct PositionThirdOrderStep2 {
 }
 
 // The seven times that an attempt hands to `check`: the Rust's `profile.t`.
+// Stays: seven fields, no array: each formula, and each fact about their sum (step2_times), names one of them.
 #[derive(Clone, Copy)]
 pub struct Times {
     pub t0: f64,
