@@ -35,25 +35,18 @@ const ZEROS: Move = Move {
     j_max: 0.0,
 };
 
-fn verdict(c: Checked) -> Verdict {
-    let q = c.profile;
-    Verdict {
-        ok: c.ok,
-        labels: q.labels(),
-    }
-}
-
+// Stays: `send_record` and `send_causes` of three lines each. One function of a size N and of what writes is proved too,
+// but is no plainer: it needs two type parameters, the row's type written out, and two `requires`, a bound on N and
+// that what writes may always be called.
 fn send_record(output: &mut impl Write, c: Checked) -> io::Result<()> {
-    let q = c.profile;
     let mut reply = [0u8; RECORD];
-    write_record(&mut reply, verdict(c), &q.row());
+    write_record(&mut reply, Verdict::from(c), &c.profile.row());
     output.write_all(&reply)
 }
 
 fn send_causes(output: &mut impl Write, c: Checked) -> io::Result<()> {
-    let q = c.profile;
     let mut reply = [0u8; CAUSES];
-    write_causes(&mut reply, verdict(c), &q.row());
+    write_causes(&mut reply, Verdict::from(c), &c.profile.row());
     output.write_all(&reply)
 }
 

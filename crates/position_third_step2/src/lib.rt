@@ -39,10 +39,7 @@ fn asked(
     let mut x = profile.row();
     let q = quartics_of(shape, s, l);
     let answer = ask(shape, s, l, q, answers, &mut x, profile.labels());
-    Checked {
-        ok: answer.ok,
-        profile: Profile::from_row(x, answer.labels),
-    }
+    Checked::from_row(x, answer)
 }
 
 fn limits(v_max: f64, v_min: f64, a_max: f64, a_min: f64, j_max: f64) -> Limits

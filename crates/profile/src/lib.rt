@@ -7,12 +7,13 @@ mod parts;
 
 ghost use Rattle.std.specs.Prelude.{◌≡◌};
 ghost use Rattle.row.specs.Row.{numbers_in};
-ghost use Rattle.profile.specs.Parts.{numbers_of, labels_of, profile_in};
+ghost use Rattle.profile.specs.Parts.{numbers_of, labels_of, profile_in, checked_in};
 ghost use Rattle.profile.specs.Check.{check_of};
 ghost use Rattle.profile.specs.Boundary.{default_of, boundary_of};
 ghost use Rattle.profile.specs.Timing.{timing_of, timing_full_of};
 
 use float::abs;
+use in_place::Verdict;
 use labels::causes::Cause;
 use labels::{ControlSigns, Direction, Labels, ReachedLimits, marked_labels, start_labels};
 use parts::part;
@@ -47,6 +48,30 @@ pub struct Profile {
 pub struct Checked {
     pub ok: bool,
     pub profile: Profile,
+}
+
+impl Checked {
+    // Of a verdict and the row that it leaves.
+    pub fn from_row(x: [f64; NUMBERS], answer: Verdict) -> Checked
+        ensures { result ≡ checked_in x answer }
+    {
+        Checked {
+            ok: answer.ok,
+            profile: Profile::from_row(x, answer.labels),
+        }
+    }
+}
+
+// The record's row is left out.
+impl From<Checked> for Verdict {
+    ghost from_gives = { λ c v. v ≡ record { ok = c.ok; labels = labels_of c.profile } };
+
+    fn from(checked: Checked) -> Verdict {
+        Verdict {
+            ok: checked.ok,
+            labels: checked.profile.labels(),
+        }
+    }
 }
 
 impl Default for Profile {
@@ -156,10 +181,7 @@ impl Profile {
             a_max,
             a_min,
         );
-        Checked {
-            ok: answer.ok,
-            profile: Profile::from_row(x, answer.labels),
-        }
+        Checked::from_row(x, answer)
     }
 
     #[tactic(auto, using(crate::proofs::Ways::put_together), unfolding(crate::specs::Parts::profile_in))]
@@ -189,10 +211,7 @@ impl Profile {
             a_min,
             marked,
         );
-        Checked {
-            ok: answer.ok,
-            profile: Profile::from_row(x, answer.labels),
-        }
+        Checked::from_row(x, answer)
     }
 
     // The jerk is held to j_max first. A marked attempt that it keeps from `check` has its cause all the same.
@@ -226,10 +245,11 @@ impl Profile {
             )
         } else {
             let left = marked_labels(marked, false, self.labels());
-            Checked {
+            let answer = Verdict {
                 ok: false,
-                profile: Profile::from_row(self.row(), left),
-            }
+                labels: left,
+            };
+            Checked::from_row(self.row(), answer)
         }
     }
 }

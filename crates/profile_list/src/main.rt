@@ -61,14 +61,11 @@ struct Rest {
     tf: f64,
 }
 
+// Stays: moves_list's `send_causes` once more, since a public function for it would have nothing to promise, as `main`'s
+// loop.
 fn send_record(output: &mut impl Write, c: Checked) -> io::Result<()> {
-    let q = c.profile;
-    let answer = Verdict {
-        ok: c.ok,
-        labels: q.labels(),
-    };
     let mut reply = [0u8; CAUSES];
-    write_causes(&mut reply, answer, &q.row());
+    write_causes(&mut reply, Verdict::from(c), &c.profile.row());
     output.write_all(&reply)
 }
 
