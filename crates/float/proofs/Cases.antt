@@ -11,6 +11,7 @@ use lib.Ieee.Fits.{up_pos}
 use lib.Ieee.Bits.{nan_bits_is, nan_bits_above}
 use lib.Ieee.Scale.{finite}
 use borrow.Author.Tests.{le-ltb, lt-ltb, ne_eqb}
+use Rattle.std.specs.Float.{float_is_finite}
 use Rattle.float.specs.Helpers.{abs_of}
 
 -- ---- the absolute value
@@ -95,12 +96,12 @@ near_is (fin true m e) (fin false n d) =
 near_is (fin false m e) (fin true n d) = refl
 near_is (fin true m e) (fin true n d) = and-false (ltb (n * up d * down e) (m * up e * down d))
 
--- ---- finite
-pub finite_is : (x : Float) → lt (abs_of x) (of_bits binary64 0x7FF0_0000_0000_0000) ≡ finite x
-unfolding lt abs_of of_bits
-finite_is nan = refl
-finite_is (inf s) = refl
-finite_is (fin s m e) = refl
+-- ---- finite: the library's definition is the logic's
+pub std_finite : (x : Float) → float_is_finite x ≡ finite x
+unfolding float_is_finite
+std_finite nan = refl
+std_finite (inf s) = refl
+std_finite (fin s m e) = refl
 
 -- ---- NaN and its patterns
 pub is_nan_lem : (x : Float) → is_nan x ≡ true → x ≡ nan

@@ -17,6 +17,8 @@ pub fn pick(c: bool, x: f64, y: f64) -> f64
     if c { x } else { y }
 }
 
+// Stays: abs, min and max of our own, here and below: document 01 wants helpers of the port, and std's min and max leave
+// open which of two equal numbers they give.
 // `f64::abs`. -0 is not below 0, so it has a case of its own.
 pub fn abs(x: f64) -> f64
     ensures { result ≡ abs_of x }
@@ -46,10 +48,11 @@ pub fn max(x: f64, y: f64) -> f64
 }
 
 // `f64::is_finite`.
+#[tactic(auto, using(crate::proofs::Cases::std_finite))]
 pub fn is_finite(x: f64) -> bool
     ensures { result ≡ finite x }
 {
-    abs(x) < f64::INFINITY
+    x.is_finite()
 }
 
 // Stays: a name of ours for std's function, here, below and in number_bytes: public, with edits of their own, and named

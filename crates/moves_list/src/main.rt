@@ -19,22 +19,6 @@ use std::io::{Read, Write};
 use step2_quartics::quartics_of;
 use step2_solver::{Move, Shape};
 
-// What is worked out of a frame whose numbers are not all finite. The list has none.
-const ZEROS: Move = Move {
-    tf: 0.0,
-    p0: 0.0,
-    v0: 0.0,
-    a0: 0.0,
-    pf: 0.0,
-    vf: 0.0,
-    af: 0.0,
-    v_max: 0.0,
-    v_min: 0.0,
-    a_max: 0.0,
-    a_min: 0.0,
-    j_max: 0.0,
-};
-
 // Stays: `send_record` and `send_causes` of three lines each. One function of a size N and of what writes is proved too,
 // but is no plainer: it needs two type parameters, the row's type written out, and two `requires`, a bound on N and
 // that what writes may always be called.
@@ -74,8 +58,9 @@ fn checked(frame: &[u8; FRAME], x: CheckNumbers) -> Checked {
     )
 }
 
+// A frame whose numbers are not all finite gives zeros; the list has none.
 fn tried(shape: Shape, frame: &[u8; FRAME]) -> Checked {
-    let x = move_numbers(frame).unwrap_or(ZEROS);
+    let x = move_numbers(frame).unwrap_or_default();
     let first = first_answer(frame);
     let second = second_answer(frame);
     let s = x.solver();
@@ -102,7 +87,7 @@ fn send_reply(output: &mut impl Write, asks: Asks, frame: &[u8; FRAME]) -> io::R
         }
         Asks::OfShape(shape) => send_record(output, tried(shape, frame)),
         Asks::OfQuartics(shape) => {
-            let x = move_numbers(frame).unwrap_or(ZEROS);
+            let x = move_numbers(frame).unwrap_or_default();
             send_quartics(output, shape, x)
         }
         Asks::OfCauses(shape) => send_causes(output, tried(shape, frame)),

@@ -5,6 +5,7 @@
 #![tactic(auto)]
 
 use digits::{byte_to_digits, from_digits, read_line, to_digits};
+use hex_bytes::decode;
 use roots::{RootAnswer, Three, quartic_need, resolvent_arguments, sorted_roots};
 use std::io;
 use std::io::{Read, Write};
@@ -24,16 +25,18 @@ fn root_answer(count: u8, x3: Three) -> RootAnswer {
     }
 }
 
-// The two characters of a count.
-fn count(high: u8, low: u8) -> Option<u8> {
-    match (high, low) {
-        (b'0', b'0'..=b'3') => Some(low - b'0'),
-        _ => None,
+// The count in the two characters of a byte, 3 at most.
+fn count(line: &[u8; 115]) -> Option<u8> {
+    let mut byte = [0u8; 1];
+    if decode(&line[..2], &mut byte) & (byte[0] <= 3) {
+        Some(byte[0])
+    } else {
+        None
     }
 }
 
 fn question(line: &[u8; 115]) -> Option<Asked> {
-    let n = count(line[0], line[1])?;
+    let n = count(line)?;
     let x3 = Three {
         x0: from_digits(line, 2)?,
         x1: from_digits(line, 18)?,

@@ -7,7 +7,7 @@ ghost use Rattle.time_acc0_vel.specs.TimeAcc0Vel.{acc0_vel_udud_window, acc0_vel
 ghost use Rattle.step2_over_roots.specs.OverRoots.{over_roots};
 
 use super::RootAnswers;
-use super::over_roots::over_roots;
+use super::over_roots::over_both;
 use labels::Labels;
 use profile::in_place::Verdict;
 use row::NUMBERS;
@@ -56,24 +56,14 @@ pub fn time_acc0_vel(
         return Verdict { ok: false, labels };
     }
     let w = uddu_window(s, l);
-    let r = over_roots(
+    let v = udud_window(s, l);
+    over_both(
         |root| time_acc0_vel::uddu(s, l, w, root),
+        |root| time_acc0_vel::udud(s, l, v, root),
         l,
-        q.uddu,
-        answers.uddu,
+        q,
+        answers,
         x,
         labels,
-    );
-    if r.ok {
-        return r;
-    }
-    let w = udud_window(s, l);
-    over_roots(
-        |root| time_acc0_vel::udud(s, l, w, root),
-        l,
-        q.udud,
-        answers.udud,
-        x,
-        r.labels,
     )
 }

@@ -13,7 +13,7 @@ ghost use Rattle.step2_solver.specs.Window.{outside_of};
 use labels::{ControlSigns, ReachedLimits};
 
 // The twelve numbers of a move, in the order of `new`.
-#[derive(Clone, Copy)]
+#[derive(Clone, Copy, Default)]
 pub struct Move {
     pub tf: f64,
     pub p0: f64,
