@@ -40,6 +40,7 @@ pub extern "C" fn bench_check_by_value(
         a_min,
     );
     // Stays: a name for the record left: with `checked.profile` written out twice a call takes 115 ns in place of 112.
+    // And no `Verdict::from(checked)`, which makes code of 808 instructions in place of 764 (its time was not taken).
     let next = checked.profile;
     *x = next.row();
     answer_number(Verdict {

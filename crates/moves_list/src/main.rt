@@ -19,9 +19,9 @@ use std::io::{Read, Write};
 use step2_quartics::quartics_of;
 use step2_solver::{Move, Shape};
 
-// Stays: `send_record` and `send_causes` of three lines each. One function of a size N and of what writes is proved too,
-// but is no plainer: it needs two type parameters, the row's type written out, and two `requires`, a bound on N and
-// that what writes may always be called.
+// Stays: `send_record` and `send_causes` of three lines each. One function of a size N and of what writes is proved
+// too, but is no plainer: it needs two type parameters, the row's type written out, and two `requires`, a bound on N
+// and that what writes may always be called.
 fn send_record(output: &mut impl Write, c: Checked) -> io::Result<()> {
     let mut reply = [0u8; RECORD];
     write_record(&mut reply, Verdict::from(c), &c.profile.row());

@@ -61,8 +61,8 @@ struct Rest {
     tf: f64,
 }
 
-// Stays: moves_list's `send_causes` once more, since a public function for it would have nothing to promise, as `main`'s
-// loop.
+// Stays: moves_list's `send_causes` once more, since a public function for it would have nothing to promise, as with
+// the loop of `main`.
 fn send_record(output: &mut impl Write, c: Checked) -> io::Result<()> {
     let mut reply = [0u8; CAUSES];
     write_causes(&mut reply, Verdict::from(c), &c.profile.row());
