@@ -6,10 +6,6 @@ use Rattle.line_reply.specs.Reply.{quartic_bytes, quartic_bytes_of}
 use Rattle.line_reply.proofs.Written.{written}
 use Rattle.line_reply.proofs.write_quartics.Goals as goal
 
-pub slice_bounds-encode-end : goal.slice_bounds-encode-end
-unfolding quartic_bytes_of
-slice_bounds-encode-end c = rw c.put_quartics.ensures
-
 pub returns : goal.returns
 unfolding quartic_bytes_of
 returns c =

@@ -1,16 +1,11 @@
 -- `nodes` makes the seven phases in the row. The invariant: the rest of the phases from here is the whole from the
 -- start, and the numbers are those of entry i. Assumes nothing.
-use mathlib.Core.Path.{refl, ◌∙◌}
+use mathlib.Core.Path.{◌∙◌}
 use native.Mathlib.Omega.{arith}
-use borrow.Author.Rules.{rules}
 use borrow.Author.Tests.{not-true, not-false}
 use Rattle.phases.proofs.Runs.{done}
 use Rattle.phases.proofs.Moves.{moved, held, stops, goes}
 use Rattle.phases.proofs.nodes.nodes.Goals as goal
-
-pub loop-i-init : goal.loop-i-init
-loop-i-init c =
-    (omega arith, refl, record { row = search rules; at_p = refl; at_v = refl; at_a = refl })
 
 pub returns-then-not-next : goal.returns-then-not-next
 returns-then-not-next c =

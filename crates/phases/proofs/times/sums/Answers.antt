@@ -15,9 +15,6 @@ pub returns-then-first : goal.returns-then-first
 unfolding row_sums
 returns-then-first c = summed c.args.x.now (rw c.if-first.true)
 
-pub loop-i-init : goal.loop-i-init
-loop-i-init c = (omega arith, refl)
-
 pub loop-i-preserved : goal.loop-i-preserved
 loop-i-preserved c =
     let i = c.loop-i.i in let x = c.loop-i.x in (

@@ -1,10 +1,7 @@
 -- The free places are emptied one after the other, by `proofs/Places.antt`. Assumes nothing.
-use Rattle.positive_set.proofs.Places.{cut_start, cut_kept, cut_freed, cut_set}
+use Rattle.positive_set.proofs.Places.{cut_kept, cut_freed, cut_set}
 use Rattle.positive_set.proofs.PositiveSet.cut.Goals as goal
 use Rattle.positive_set.proofs.PositiveSet.cut.Goals.{then-i-len, else-i-len}
-
-pub loop-i-init : goal.loop-i-init
-loop-i-init c = cut_start c.args.self.«data» c.args.self.len c.well_formed.0.1.1.0.1.0.1
 
 pub loop-i-preserved : goal.loop-i-preserved
 loop-i-preserved c =

@@ -1,5 +1,5 @@
 -- The last numbers first, each in its place, by `proofs/Places.antt`. Assumes nothing.
-use Rattle.positive_set.proofs.Places.{none_done, free_place, one_more, all_done}
+use Rattle.positive_set.proofs.Places.{none_done, free_place, one_more}
 use Rattle.positive_set.proofs.PositiveSet.sorted.Goals as goal
 
 pub with-set-requires : goal.with-set-requires
@@ -12,6 +12,3 @@ loop-x-init c = rw (c.into_iter-x-iterator.ensures.into_iter_gives, c.rev-x-item
 
 pub loop-x-preserved : goal.loop-x-preserved
 loop-x-preserved c = one_more _ _ c.loop-x.invariant c.in-Some.ensures.steps c.with-set.ensures
-
-pub returns : goal.returns
-returns c = all_done c.loop-x.invariant c.in-None.ensures.steps.0

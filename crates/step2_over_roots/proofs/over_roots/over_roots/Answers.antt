@@ -1,13 +1,9 @@
 -- The roots of a quartic tried in turn, by `proofs/Roots.antt`. Assumes nothing.
-use mathlib.Core.Path.{refl}
 use Rattle.step2_over_roots.proofs.Roots.{four, roots_are, hit, miss, spent}
 use Rattle.step2_over_roots.proofs.over_roots.over_roots.Goals as goal
 
 pub shared_ref_as_front-root-items : goal.shared_ref_as_front-root-items
 shared_ref_as_front-root-items g c = four c.args.polynom c.args.answer c.sorted_roots-set.ensures
-
-pub loop-root-init : goal.loop-root-init
-loop-root-init g c = λ trial gives. record { same = refl }
 
 pub returns-then-r : goal.returns-then-r
 returns-then-r g c = λ trial gives.
