@@ -85,8 +85,8 @@ fn answer_line(input: &mut impl Read, output: &mut impl Write) -> io::Result<boo
 }
 
 // The list is shorter than the count of turns, which is there so that the loop is seen to end.
-// Stays: the same loop in five programs, since a public function for it would have nothing to promise: each function in
-// a library promises its result, and of an input's end no clause can speak.
+// Stays: the same loop in five programs, since each function of a library promises its result, and of these turns
+// nothing could be promised.
 fn main(rt: HostRuntime) -> io::Result<()> {
     let mut input = rt.stdin();
     let mut output = rt.stdout();
