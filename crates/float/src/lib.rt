@@ -17,8 +17,8 @@ pub fn pick(c: bool, x: f64, y: f64) -> f64
     if c { x } else { y }
 }
 
-// Stays: abs, min and max of our own, here and below: document 01 wants helpers of the port, and std's min and max leave
-// open which of two equal numbers they give.
+// Stays: abs, min and max of our own, here and below: document 01 wants helpers of the port, and std's min and max
+// leave open which of two equal numbers they give.
 // `f64::abs`. -0 is not below 0, so it has a case of its own.
 pub fn abs(x: f64) -> f64
     ensures { result ≡ abs_of x }

@@ -40,8 +40,8 @@ impl PositiveSet {
     }
 
     // The same numbers with nothing in the places that are free. A length above 4 counts as 4.
-    // Stays: a test at each place. Tried: `for place in &mut data[len..]`, which proves; but the compiler makes it a call
-    // of memset at each of three places in roots::insert_quadratic, in place of at most four stores.
+    // Stays: a test at each place. Tried: `for place in &mut data[len..]`, which proves; but the compiler makes it a
+    // call of memset at each of three places in roots::insert_quadratic, in place of at most four stores.
     fn cut(self) -> Self
         ensures { result ≡ set_of (held_of self) }
     {
