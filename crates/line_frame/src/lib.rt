@@ -88,7 +88,7 @@ pub fn check_numbers(frame: &[u8; FRAME]) -> Option<CheckNumbers>
 }
 
 // The other kinds', where the twelve numbers after the kind are finite.
-// Inlined: it has two callers, and handed over in memory the numbers cost a line a twentieth of its time.
+// Inlined: it has two callers, and would else hand the numbers over in memory.
 #[inline(always)]
 #[tactic(auto, unfolding(crate::specs::Numbers::finite_move_of))]
 pub fn move_numbers(frame: &[u8; FRAME]) -> Option<Move>

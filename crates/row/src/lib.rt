@@ -43,8 +43,8 @@ pub fn start(p0: f64, v0: f64, a0: f64, pf: f64, vf: f64, af: f64) -> [f64; NUMB
 }
 
 // Numbers from a place on.
-// Stays: one by one, no `copy_from_slice`: std's copy tests whether the two places overlap, and with it and its like
-// elsewhere a line of kind 01 took a tenth longer (docs/DECISIONS.md, 'The design pass').
+// Stays: one by one, no `copy_from_slice`: std's copy tests whether the two places overlap; with that and two things
+// more a line of kind 01 took a tenth longer (docs/DECISIONS.md, 'The design pass').
 fn put(x: &mut [f64], at: usize, some: &[f64])
     requires { at + length some.now ≤ length x.old }
     ensures { x.new ≡ sets x.old at some.now }
