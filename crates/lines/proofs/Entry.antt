@@ -162,11 +162,11 @@ module _ (line lent : List ℕ) where
                 past asked (questions_of r.asks at ++ (ask 8 (leb r.places (length lent)) ∷ [])) passed,
               )
 
-          later : (n ≡ 0 → ⊥) → record { number = n; filled = 0; places = reply } ≡ outcome_of line lent
+          pub later : (n ≡ 0 → ⊥) → record { number = n; filled = 0; places = reply } ≡ outcome_of line lent
           unfolding outcome_of
           later z = rw (← answer_is, ne_eqb n 0 z)
 
-          all : n ≡ 0 → record { number = 0; filled = r.places; places = reply } ≡ outcome_of line lent
+          pub all : n ≡ 0 → record { number = 0; filled = r.places; places = reply } ≡ outcome_of line lent
           unfolding outcome_of
           all z = rw (← answer_is, z, known)
 
