@@ -46,3 +46,8 @@ replied_of qs bytes lent =
 unfoldable pub frame_answer_of : Asks → Frame → List ℕ → Answer
 frame_answer_of asks at lent =
     replied_of (questions_of asks at ++ (ask 8 (leb (places_of asks) (length lent)) ∷ [])) (reply_of asks at) lent
+
+-- a frame of no kind is asked nothing: 0, and the places as they came
+abbrev pub frame_answer_in : Option Asks → Frame → List ℕ → Answer
+frame_answer_in None at lent = record { number = 0; places = lent }
+frame_answer_in (Some asks) at lent = frame_answer_of asks at lent

@@ -29,7 +29,7 @@ pub fn answered(request: &[u8], reply: &mut [u8]) -> Result<usize, Refusal>
     if n / 2 != row.bytes {
         return Err(Refusal::Bytes);
     }
-    reply_to(row.asks, &frame, reply).and(Ok(row.places))
+    reply_to(Some(row.asks), &frame, reply).and(Ok(row.places))
 }
 
 // Document 01's number of an answer: 0 of a reply.
